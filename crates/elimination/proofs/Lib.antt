@@ -1,0 +1,9 @@
+pub mod Tables
+pub mod Repeats
+pub mod Pivot
+pub mod Sides
+pub mod Passing
+pub mod Turn
+pub mod WalkIsLoop
+pub mod LoopOrderIsLoop
+pub mod Runs

@@ -1,0 +1,102 @@
+-- The invariant of the careful walk: before step number t each cell has passed the pivots below its level, and the five
+-- tables have it as the loop has it there. Assumes that the order is lawful.
+use mathlib.Core.Path.{_≡_, refl, sym, ap, _∙_, subst}
+use mathlib.Core.Bool.{Bool, true, false, cond}
+use mathlib.Core.List.{List}
+use mathlib.Core.Logic.{_≢_, _⊎_, inl, inr, ⊎-elim}
+use Prim.Native.Nat.{ℕ, zero, suc, _*_, _<_, _≤_, min}
+use native.Mathlib.Omega.{arith}
+use lib.Dec.{ltb, leb}
+use lib.ListN.{length, getD}
+use Rattle.std.proofs.shelf.Tests.{cases-eq, cases-lt, cases-bool, ltb-true, ltb-false, leb-true, leb-false, eqb-true, or-cases, and-parts}
+use Rattle.orders.specs.declared.step.Step.{Step}
+use Rattle.orders.specs.Order.{step-count}
+use Rattle.orders.specs.Lawful.{step-of, Within, Lawful}
+use Rattle.elimination.specs.Table.{place}
+use Rattle.elimination.specs.Loop.{loop-until}
+use Rattle.elimination.specs.Walk.{Tables, row-side, column-side, pivot-side, pivot-done, careful-value, copies, careful-step}
+use Rattle.elimination.proofs.Tables.{place-below, place-row, place-column, getD-changed-same}
+use Rattle.elimination.proofs.Pivot.{loop-until-none, pivot-outside, pivot-inside}
+use Rattle.elimination.proofs.Sides.{copied-here, read-side, side-stored, side-left, Long, Agree, careful-outside, careful-inside, careful-long, careful-elsewhere, worked}
+
+-- Cell (i, j) before step number t. `seen m` is the loop's cell (i, j) after its pivots below m.
+pub record Passed {X : Type 0} (n : ℕ) (when : Step → ℕ) (seen : ℕ → X) (d : X) (t i j : ℕ) (T : Tables X) : Type 0 where
+  pub level : ℕ
+  pub most : level ≤ n
+  pub behind : (h : ℕ) → h < level → when (step-of i j h) < t
+  pub ahead : (h : ℕ) → level ≤ h → h < n → t ≤ when (step-of i j h)
+  pub table : getD (T .table) (place n i j) d ≡ seen level
+  pub u0 : getD (T .u0) (place n i j) d ≡ seen (min level j)
+  pub u1 : getD (T .u1) (place n i j) d ≡ seen (min level (suc j))
+  pub v0 : getD (T .v0) (place n i j) d ≡ seen (min level i)
+  pub v1 : getD (T .v1) (place n i j) d ≡ seen (min level (suc i))
+
+-- a cell has passed each pivot up to m whose steps stand before t
+pub level-at-least : {X : Type 0} (n : ℕ) (when : Step → ℕ) (seen : ℕ → X) (d : X) (t i j : ℕ) (T : Tables X) (c : Passed n when seen d t i j T) (m : ℕ)
+    → m ≤ n → ((h : ℕ) → h < m → when (step-of i j h) < t) → m ≤ c .level
+level-at-least n when seen d t i j T c m most done =
+    ⊎-elim
+    (λ (short : c .level < m). absurd (omega (arith, done (c .level) short, c .ahead (c .level) (omega arith) (omega arith))))
+    (λ enough. enough)
+    (cases-lt (c .level) m)
+
+module _ {X : Type 0} (rule : X → X → X → X → X) (member : Step → Bool) (n : ℕ) (at : ℕ → Step) (lawful : Lawful n at) (xs : List X) (d : X) (long : length xs ≡ n * n) where
+  abbrev pub seen : ℕ → ℕ → ℕ → X
+  seen i j m = getD (loop-until rule member n m xs) (place n i j) d
+
+  abbrev pub Cell : ℕ → ℕ → ℕ → Tables X → Type 0
+  Cell t i j T = Passed n (lawful .when) (seen i j) d t i j T
+
+  abbrev pub Walked : ℕ → Tables X → Type 0
+  Walked t T = (i j : ℕ) → i < n → j < n → Cell t i j T
+
+  -- the side tables at a cell that has passed as many pivots as they keep
+  module _ (t : ℕ) (T : Tables X) (walked : Walked t T) (a b : ℕ) (ha : a < n) (hb : b < n) where
+    enough : (m : ℕ) → m ≤ n → ((h : ℕ) → h < m → lawful .when (step-of a b h) < t) → m ≤ walked a b ha hb .level
+    enough m = level-at-least n (lawful .when) (seen a b) d t a b T (walked a b ha hb) m
+
+    pub settled-table : ((h : ℕ) → h < n → lawful .when (step-of a b h) < t) → getD (T .table) (place n a b) d ≡ seen a b n
+    settled-table done =
+        let c = walked a b ha hb in
+        let e : c .level ≡ n = omega (arith, enough n (omega arith) done, c .most) in
+        c .table ∙ ap (seen a b) e
+
+    pub settled-u0 : ((h : ℕ) → h < b → lawful .when (step-of a b h) < t) → getD (T .u0) (place n a b) d ≡ seen a b b
+    settled-u0 done =
+        let c = walked a b ha hb in
+        let e : min (c .level) b ≡ b = omega (arith, enough b (omega arith) done) in
+        c .u0 ∙ ap (seen a b) e
+
+    pub settled-u1 : ((h : ℕ) → h < suc b → lawful .when (step-of a b h) < t) → getD (T .u1) (place n a b) d ≡ seen a b (suc b)
+    settled-u1 done =
+        let c = walked a b ha hb in
+        let e : min (c .level) (suc b) ≡ suc b = omega (arith, enough (suc b) (omega arith) done) in
+        c .u1 ∙ ap (seen a b) e
+
+    pub settled-v0 : ((h : ℕ) → h < a → lawful .when (step-of a b h) < t) → getD (T .v0) (place n a b) d ≡ seen a b a
+    settled-v0 done =
+        let c = walked a b ha hb in
+        let e : min (c .level) a ≡ a = omega (arith, enough a (omega arith) done) in
+        c .v0 ∙ ap (seen a b) e
+
+    pub settled-v1 : ((h : ℕ) → h < suc a → lawful .when (step-of a b h) < t) → getD (T .v1) (place n a b) d ≡ seen a b (suc a)
+    settled-v1 done =
+        let c = walked a b ha hb in
+        let e : min (c .level) (suc a) ≡ suc a = omega (arith, enough (suc a) (omega arith) done) in
+        c .v1 ∙ ap (seen a b) e
+
+  pub walked-start : Walked 0 (copies xs)
+  walked-start i j hi hj =
+      let e : getD xs (place n i j) d ≡ seen i j 0 = ap (λ ys. getD ys (place n i j) d) (sym (loop-until-none rule member n xs)) in
+      let least : (m : ℕ) → seen i j 0 ≡ seen i j (min 0 m) = λ m. ap (seen i j) (omega arith) in
+      record {
+        level = 0;
+        most = omega arith;
+        behind = λ h l. absurd (omega arith);
+        ahead = λ h _ _. omega arith;
+        table = e;
+        u0 = e ∙ least j;
+        u1 = e ∙ least (suc j);
+        v0 = e ∙ least i;
+        v1 = e ∙ least (suc i);
+      }

@@ -1,0 +1,9 @@
+pub mod Kind
+pub mod Ranked
+pub mod Costs
+pub mod Widths
+pub mod ChannelSets
+pub mod Fares
+pub mod Pairs
+pub mod Covering
+pub mod Widest
