@@ -1,10 +1,9 @@
 -- The run in place by an order that lists the steps as the loop goes through them is the loop. Assumes nothing.
-use mathlib.Core.Path.{_≡_, refl, sym, ap, _∙_}
+use mathlib.Core.Path.{_≡_, ap, _∙_}
 use mathlib.Core.Bool.{Bool}
 use mathlib.Core.List.{List}
 use Prim.Native.Nat.{ℕ, _+_, _*_, _<_}
 use Rattle.orders.specs.declared.step.Step.{Step}
-use Rattle.orders.specs.Order.{step-count}
 use Rattle.orders.specs.Lawful.{step-of}
 use Rattle.elimination.specs.Table.{upto}
 use Rattle.elimination.specs.Loop.{step-in-place, looped, loop-until, run-until, run-in-place}

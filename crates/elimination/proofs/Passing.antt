@@ -1,23 +1,19 @@
 -- The invariant of the careful walk: before step number t each cell has passed the pivots below its level, and the five
 -- tables have it as the loop has it there. Assumes that the order is lawful.
-use mathlib.Core.Path.{_≡_, refl, sym, ap, _∙_, subst}
-use mathlib.Core.Bool.{Bool, true, false, cond}
+use mathlib.Core.Path.{_≡_, sym, ap, _∙_}
+use mathlib.Core.Bool.{Bool}
 use mathlib.Core.List.{List}
-use mathlib.Core.Logic.{_≢_, _⊎_, inl, inr, ⊎-elim}
-use Prim.Native.Nat.{ℕ, zero, suc, _*_, _<_, _≤_, min}
+use mathlib.Core.Logic.{⊎-elim}
+use Prim.Native.Nat.{ℕ, suc, _*_, _<_, _≤_, min}
 use native.Mathlib.Omega.{arith}
-use lib.Dec.{ltb, leb}
 use lib.ListN.{length, getD}
-use Rattle.std.proofs.shelf.Tests.{cases-eq, cases-lt, cases-bool, ltb-true, ltb-false, leb-true, leb-false, eqb-true, or-cases, and-parts}
+use Rattle.std.proofs.shelf.Tests.{cases-lt}
 use Rattle.orders.specs.declared.step.Step.{Step}
-use Rattle.orders.specs.Order.{step-count}
-use Rattle.orders.specs.Lawful.{step-of, Within, Lawful}
+use Rattle.orders.specs.Lawful.{step-of, Lawful}
 use Rattle.elimination.specs.Table.{place}
 use Rattle.elimination.specs.Loop.{loop-until}
-use Rattle.elimination.specs.Walk.{Tables, row-side, column-side, pivot-side, pivot-done, careful-value, copies, careful-step}
-use Rattle.elimination.proofs.Tables.{place-below, place-row, place-column, getD-changed-same}
-use Rattle.elimination.proofs.Pivot.{loop-until-none, pivot-outside, pivot-inside}
-use Rattle.elimination.proofs.Sides.{copied-here, read-side, side-stored, side-left, Long, Agree, careful-outside, careful-inside, careful-long, careful-elsewhere, worked}
+use Rattle.elimination.specs.Walk.{Tables, copies}
+use Rattle.elimination.proofs.Pivot.{loop-until-none}
 
 -- Cell (i, j) before step number t. `seen m` is the loop's cell (i, j) after its pivots below m.
 pub record Passed {X : Type 0} (n : ℕ) (when : Step → ℕ) (seen : ℕ → X) (d : X) (t i j : ℕ) (T : Tables X) : Type 0 where

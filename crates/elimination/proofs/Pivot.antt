@@ -1,16 +1,16 @@
 -- One pivot of the loop as equations on single cells: what the loop has in cell (i, j) after pivot k, from what it has
 -- before the pivot and, where it has already come by within the pivot, after it. Assumes nothing.
 use mathlib.Core.Path.{_≡_, refl, sym, ap, _∙_, subst}
-use mathlib.Core.Bool.{Bool, true, false, cond, _&&_, _||_}
+use mathlib.Core.Bool.{Bool, true, false, cond, _&&_}
 use mathlib.Core.List.{List}
-use mathlib.Core.Logic.{_≢_, _⊎_, inl, inr, ⊎-elim}
-use Prim.Native.Nat.{ℕ, zero, suc, _+_, _-_, _*_, _/_, _%_, _<_, _≤_}
+use mathlib.Core.Logic.{_≢_, ⊎-elim}
+use Prim.Native.Nat.{ℕ, suc, _+_, _-_, _*_, _/_, _%_, _<_, _≤_}
 use native.Mathlib.Omega.{arith}
 use lib.Dec.{ltb, eqb}
 use lib.ListN.{length, getD, set}
 use Rattle.std.proofs.shelf.Bits.{div-add-mod', mul-le}
 use Rattle.std.proofs.shelf.Lists.{getD-default}
-use Rattle.std.proofs.shelf.Tests.{ltb-true, ltb-false, eqb-true, eqb-false, or-cases, or-parts, and-parts, and-cases, cases-eq}
+use Rattle.std.proofs.shelf.Tests.{ltb-true, ltb-false, eqb-true, eqb-false, or-cases, or-parts, and-parts, and-cases}
 use Rattle.orders.specs.declared.step.Step.{Step}
 use Rattle.orders.specs.Lawful.{step-of}
 use Rattle.elimination.specs.Table.{place, changed, upto}

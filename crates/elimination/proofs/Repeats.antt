@@ -1,14 +1,13 @@
 -- The laws of `upto`: one turn more, equal turns, nested counts as one count, and a sweep over the places of a list.
 -- Assumes nothing.
-use mathlib.Core.Path.{_≡_, refl, sym, ap, _∙_, subst}
+use mathlib.Core.Path.{_≡_, refl, ap, _∙_}
 use mathlib.Core.List.{List}
-use mathlib.Core.Logic.{_≢_, inl, inr, ⊎-elim}
+use mathlib.Core.Logic.{_≢_}
 use Prim.Native.Nat.{ℕ, zero, suc, _+_, _*_, _<_, _≤_}
-use native.Mathlib.Nat.{not-suc-le-zero, add-suc, add-zero, suc-mul, zero-mul}
+use native.Mathlib.Nat.{add-suc, add-zero, suc-mul, zero-mul}
 use native.Mathlib.Numerals.{add-one}
 use native.Mathlib.Omega.{arith}
-use lib.ListN.{length, getD}
-use Rattle.std.proofs.shelf.Tests.{cases-eq}
+use lib.ListN.{getD}
 use Rattle.elimination.specs.Table.{upto}
 
 module _ {A : Type 0} where

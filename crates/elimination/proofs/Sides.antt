@@ -1,5 +1,5 @@
 -- What one careful step does to single cells of the five tables. Assumes nothing.
-use mathlib.Core.Path.{_≡_, refl, sym, ap, _∙_, subst}
+use mathlib.Core.Path.{_≡_, refl, sym, ap, _∙_}
 use mathlib.Core.Bool.{Bool, true, false, cond}
 use mathlib.Core.List.{List}
 use mathlib.Core.Logic.{_≢_, ⊎-elim}
@@ -11,7 +11,7 @@ use Rattle.std.proofs.shelf.Lists.{getD-default}
 use Rattle.std.proofs.shelf.Tests.{cases-lt}
 use Rattle.orders.specs.declared.step.Step.{Step}
 use Rattle.elimination.specs.Table.{place, changed}
-use Rattle.elimination.specs.Walk.{Tables, row-side, column-side, pivot-side, careful-value, copied-if, kept, careful-step}
+use Rattle.elimination.specs.Walk.{Tables, careful-value, copied-if, kept, careful-step}
 use Rattle.elimination.proofs.Tables.{length-changed, changed-is-set, getD-changed-same, getD-changed-other}
 
 module _ {X : Type 0} where

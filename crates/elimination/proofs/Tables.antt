@@ -1,16 +1,17 @@
 -- The laws of `place` and `changed`. Assumes nothing.
-use mathlib.Core.Path.{_≡_, refl, sym, ap, _∙_}
+use mathlib.Core.Path.{_≡_, refl, ap}
 use mathlib.Core.List.{List, [], _∷_}
 use mathlib.Core.Logic.{_≢_}
-use Prim.Native.Nat.{ℕ, zero, suc, _+_, _*_, _/_, _%_, _<_, _≤_}
+use Prim.Native.Nat.{ℕ, zero, suc, _*_, _/_, _%_, _<_}
 use native.Mathlib.Nat.{le-of-suc-le-suc, not-suc-le-zero}
 use native.Mathlib.Omega.{arith}
 use lib.ListN.{length, getD, set}
-use Rattle.std.proofs.shelf.Bits.{mul-add-lt, div-mul-add, mod-mul-add}
+use Rattle.std.proofs.shelf.Bits.{div-mul-add, mod-mul-add}
+use Rattle.orders.proofs.Places.{place-below as below-rows, row-before}
 use Rattle.elimination.specs.Table.{place, changed}
 
 pub place-below : (n i j : ℕ) → i < n → j < n → place n i j < n * n
-place-below n i j hi hj = mul-add-lt i n j n hi hj
+place-below n i j hi hj = below-rows i n n j hi hj
 
 pub place-row : (n i j : ℕ) → j < n → place n i j / n ≡ i
 place-row n i j h = div-mul-add i n j h
@@ -23,7 +24,7 @@ pub place-in-row : (n i j k : ℕ) → j < k → place n i j < place n i k
 place-in-row n i j k h = omega arith
 
 pub place-in-earlier-row : (n i j a b : ℕ) → i < a → j < n → place n i j < place n a b
-place-in-earlier-row n i j a b h hj = omega (arith, mul-add-lt i n j a h hj)
+place-in-earlier-row n i j a b h hj = row-before i a n j b h hj
 
 module _ {X : Type 0} where
   pub length-changed : (xs : List X) (p : ℕ) (f : X → X) → length (changed xs p f) ≡ length xs

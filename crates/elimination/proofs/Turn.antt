@@ -1,9 +1,9 @@
 -- One careful step keeps the invariant of the walk. Assumes that the order is lawful.
-use mathlib.Core.Path.{_≡_, refl, sym, ap, _∙_, subst}
+use mathlib.Core.Path.{_≡_, sym, ap, _∙_, subst}
 use mathlib.Core.Bool.{Bool, true, false, cond, _&&_}
 use mathlib.Core.List.{List}
-use mathlib.Core.Logic.{_≢_, _⊎_, inl, inr, ⊎-elim}
-use Prim.Native.Nat.{ℕ, zero, suc, _*_, _/_, _%_, _<_, _≤_, min}
+use mathlib.Core.Logic.{_≢_, _⊎_, ⊎-elim}
+use Prim.Native.Nat.{ℕ, suc, _*_, _/_, _%_, _<_, _≤_, min}
 use native.Mathlib.Omega.{arith}
 use lib.Dec.{ltb, leb, eqb}
 use lib.ListN.{length, getD}
@@ -11,13 +11,13 @@ use Rattle.std.proofs.shelf.Tests.{cases-eq, cases-order, cases-lt, cases-bool,
 use Rattle.orders.specs.declared.step.Step.{Step}
 use Rattle.orders.specs.Order.{step-count}
 use Rattle.orders.specs.Lawful.{step-of, Within, Lawful}
-use Rattle.elimination.specs.Table.{place, changed}
+use Rattle.elimination.specs.Table.{place}
 use Rattle.elimination.specs.Loop.{loop-until}
 use Rattle.elimination.specs.Walk.{Tables, row-side, column-side, pivot-side, pivot-done, careful-value, careful-step}
 use Rattle.elimination.proofs.Tables.{place-below, place-row, place-column, getD-changed-same, length-changed}
 use Rattle.elimination.proofs.Pivot.{pivot-outside, pivot-inside}
-use Rattle.elimination.proofs.Sides.{copied-here, read-side, side-stored, side-left, Long, Agree, careful-outside, careful-inside, careful-elsewhere, worked}
-use Rattle.elimination.proofs.Passing.{Passed, seen, Cell, Walked, settled-u0, settled-u1, settled-v0, settled-v1}
+use Rattle.elimination.proofs.Sides.{copied-here, read-side, side-stored, side-left, Long, careful-outside, careful-inside, careful-elsewhere, worked}
+use Rattle.elimination.proofs.Passing.{seen, Cell, Walked, settled-u0, settled-u1, settled-v0, settled-v1}
 
 -- what holds of each number below k and of k holds of each below suc k
 one-more : (P : ℕ → Type 0) (k : ℕ) → ((h : ℕ) → h < k → P h) → P k → (h : ℕ) → h < suc k → P h

@@ -1,6 +1,6 @@
 -- The careful walk leaves the loop's table, and in the side tables what the loop has at each threshold. Assumes that the
 -- order is lawful.
-use mathlib.Core.Path.{_≡_, refl, sym, ap, _∙_, subst}
+use mathlib.Core.Path.{_≡_, sym, _∙_, subst}
 use mathlib.Core.Bool.{Bool}
 use mathlib.Core.List.{List}
 use Prim.Native.Nat.{ℕ, zero, suc, _*_, _/_, _%_, _<_, _≤_}
@@ -10,10 +10,10 @@ use Rattle.std.proofs.shelf.Bits.{div-add-mod', div-below, mod-below}
 use Rattle.std.proofs.shelf.Lists.{same-lists}
 use Rattle.orders.specs.declared.step.Step.{Step}
 use Rattle.orders.specs.Order.{step-count}
-use Rattle.orders.specs.Lawful.{step-of, Within, Lawful}
+use Rattle.orders.specs.Lawful.{step-of, Lawful}
 use Rattle.elimination.specs.Table.{place, upto}
 use Rattle.elimination.specs.Loop.{loop-until, looped}
-use Rattle.elimination.specs.Walk.{Tables, copies, walk-until, walk, Leaves-loop}
+use Rattle.elimination.specs.Walk.{Tables, walk-until, walk, Leaves-loop}
 use Rattle.elimination.proofs.Pivot.{length-loop-until}
 use Rattle.elimination.proofs.Sides.{Long, careful-long}
 use Rattle.elimination.proofs.Passing.{Walked, walked-start, settled-table, settled-u0, settled-u1, settled-v0, settled-v1}

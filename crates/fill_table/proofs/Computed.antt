@@ -7,7 +7,7 @@ use Rattle.orders.specs.declared.step.Step.{Step}
 use Rattle.orders.specs.RecursiveOrder.{recursive-at}
 use Rattle.elimination.specs.Table.{changed, upto}
 use Rattle.elimination.specs.Loop.{step-in-place, loop-until, looped, run-until, run-in-place}
-use Rattle.elimination.specs.Walk.{Tables, five, careful-step, walk-until, walk}
+use Rattle.elimination.specs.Walk.{five, careful-step, walk-until, walk}
 
 abbrev pub sum : ℕ → ℕ → ℕ → ℕ → ℕ
 sum x u v w = (x + u + v + w) % 2 ^ 32

@@ -1,4 +1,8 @@
 // A network of four mirrors: its links, and the distances by two runs.
+ghost use mathlib.Core.Path.{_≡_};
+ghost use Rattle.std.specs.Results.{mapped};
+ghost use Rattle.std.specs.declared.result.Result.the-variants.{Ok};
+ghost use Rattle.fill_table.specs.Network.{values, link-costs, distance-costs};
 use faults::LayoutFault;
 use kinds::cells::Cost;
 use kinds::cost::CostKind;
@@ -13,29 +17,45 @@ use runs::path::Path;
 use runs::path::PathRule;
 
 /// The four sites, by number.
-pub const MIRRORS: [&str; 4] = ["Bergen", "Geneva", "Kyoto", "Lima"];
+pub(crate) const MIRRORS: [&str; 4] = ["Bergen", "Geneva", "Kyoto", "Lima"];
 
 /// A table of costs between the four sites, row by row.
-pub type Costs = [Cost; 16];
+pub(crate) type Costs = [Cost; 16];
 
 /// The costs of the links: here on the diagonal, none where there is no link.
-pub fn links() -> Costs {
-    let mut cells = [Cost::none(); 16];
-    for site in 0..4 {
-        cells[5 * site] = Cost::here();
-    }
-    // Bergen to Geneva and to Kyoto
-    cells[1] = Cost::new(4);
-    cells[2] = Cost::new(20);
-    // Geneva to Kyoto, Kyoto to Lima, Lima to Geneva
-    cells[6] = Cost::new(9);
-    cells[11] = Cost::new(7);
-    cells[13] = Cost::new(6);
-    cells
+pub(crate) fn links() -> Costs
+    ensures { λ r. ⌜ values r ≡ link-costs ⌝ }
+{
+    let here = Cost::here();
+    let none = Cost::none();
+    [
+        // from Bergen
+        here,
+        Cost::new(4),
+        Cost::new(20),
+        none,
+        // from Geneva
+        none,
+        here,
+        Cost::new(9),
+        none,
+        // from Kyoto
+        none,
+        none,
+        here,
+        Cost::new(7),
+        // from Lima
+        none,
+        Cost::new(6),
+        none,
+        here,
+    ]
 }
 
 /// The distances over the links, in place by the recursive order.
-pub fn distances_in_place() -> Result<Costs, LayoutFault> {
+pub(crate) fn distances_in_place() -> Result<Costs, LayoutFault>
+    ensures { λ r. ⌜ mapped values (λ e. e) r ≡ Ok distance-costs ⌝ }
+{
     let order = RecursiveOrder::new(2)?;
     let mut table = links();
     run_in_place(&Path::<Cost>::new(), &AllSteps, &order, &mut table)?;
@@ -43,7 +63,9 @@ pub fn distances_in_place() -> Result<Costs, LayoutFault> {
 }
 
 /// The distances over the links, by the careful run and the recursive order.
-pub fn distances_careful() -> Result<Costs, LayoutFault> {
+pub(crate) fn distances_careful() -> Result<Costs, LayoutFault>
+    ensures { λ r. ⌜ mapped values (λ e. e) r ≡ Ok distance-costs ⌝ }
+{
     let order = RecursiveOrder::new(2)?;
     let mut table = links();
     let mut u0 = [Cost::none(); 16];

@@ -14,7 +14,7 @@ use kinds::kind::Kind;
 use std::io;
 
 /// One table of two sites, filled in three ways.
-pub fn summing(rt: &LibcRuntime) -> Result<(), Failure> {
+pub(crate) fn summing(rt: &LibcRuntime) -> Result<(), Failure> {
     println!(rt, "One table, filled in three ways")?;
     println!(rt, "-------------------------------")?;
     println!(rt, "A table of two sites holds")?;
@@ -87,7 +87,7 @@ fn compare(rt: &LibcRuntime, run: &str, looped: &[u32; 4], left: &[u32; 4]) -> i
 }
 
 /// The distances in a network of four mirrors, by two runs.
-pub fn network(rt: &LibcRuntime) -> Result<(), Failure> {
+pub(crate) fn network(rt: &LibcRuntime) -> Result<(), Failure> {
     println!(rt, "Distances between four mirrors")?;
     println!(rt, "------------------------------")?;
     println!(

@@ -14,10 +14,10 @@ use runs::sum::Sum;
 use runs::sum::SumRule;
 
 /// The table of two sites as it is before each run.
-pub const START: [u32; 4] = [0, 0, 0, 1];
+pub(crate) const START: [u32; 4] = [0, 0, 0, 1];
 
 /// What the loop leaves.
-pub fn by_loop() -> Result<[u32; 4], LayoutFault>
+pub(crate) fn by_loop() -> Result<[u32; 4], LayoutFault>
     ensures { λ r. ⌜ r ≡ Ok (1 ∷ 2 ∷ 2 ∷ 4 ∷ []) ⌝ }
 {
     let mut table = START;
@@ -26,7 +26,7 @@ pub fn by_loop() -> Result<[u32; 4], LayoutFault>
 }
 
 /// What the run in place by the recursive order leaves.
-pub fn in_place() -> Result<[u32; 4], LayoutFault>
+pub(crate) fn in_place() -> Result<[u32; 4], LayoutFault>
     ensures { λ r. ⌜ r ≡ Ok (20 ∷ 8 ∷ 8 ∷ 4 ∷ []) ⌝ }
 {
     let order = RecursiveOrder::new(1)?;
@@ -37,7 +37,7 @@ pub fn in_place() -> Result<[u32; 4], LayoutFault>
 
 /// A table with its four side tables.
 #[derive(Clone, Copy)]
-pub struct FiveTables {
+pub(crate) struct FiveTables {
     pub table: [u32; 4],
     pub u0: [u32; 4],
     pub u1: [u32; 4],
@@ -46,7 +46,7 @@ pub struct FiveTables {
 }
 
 /// What the careful run by the recursive order leaves.
-pub fn careful() -> Result<FiveTables, LayoutFault>
+pub(crate) fn careful() -> Result<FiveTables, LayoutFault>
     ensures { λ r. ⌜ r ≡ Ok (record { table = 1 ∷ 2 ∷ 2 ∷ 4 ∷ []; u0 = 0 ∷ 0 ∷ 0 ∷ 1 ∷ []; u1 = 0 ∷ 2 ∷ 0 ∷ 4 ∷ []; v0 = 0 ∷ 0 ∷ 0 ∷ 1 ∷ []; v1 = 0 ∷ 0 ∷ 2 ∷ 4 ∷ [] }) ⌝ }
 {
     let order = RecursiveOrder::new(1)?;

@@ -1,3 +1,4 @@
 pub mod Sets
 pub mod Sure
 pub mod Sizes
+pub mod Results

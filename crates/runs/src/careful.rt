@@ -1,13 +1,13 @@
 // The careful run.
 ghost use mathlib.Core.Path.{_≡_};
-ghost use mathlib.Core.Bool.{true, cond, _&&_};
+ghost use mathlib.Core.Bool.{cond, _&&_};
 ghost use Prim.Native.Nat.{_*_, _^_, _<_, _≤_};
 ghost use lib.Dec.{eqb, ltb, leb};
 ghost use lib.ListN.{length, getD, set};
 ghost use Rattle.orders.specs.Lawful.{Within};
 ghost use Rattle.elimination.specs.Table.{place};
-ghost use Rattle.elimination.specs.Walk.{five, careful-value, careful-step, walk, Leaves-loop};
-ghost use Rattle.runs.specs.Sizes.{all-fit, size-answer};
+ghost use Rattle.elimination.specs.Walk.{five, careful-value, careful-step, walk};
+ghost use Rattle.runs.specs.Results.{careful-answer, careful-tables, Careful-is-loop};
 use crate::cells::cell_at;
 use crate::cells::place_of;
 use crate::cells::store_if;
@@ -34,9 +34,9 @@ pub fn careful_run<R: Rule, S: UpdateSet, O: Order>(
     v0: &mut [R::Cell],
     v1: &mut [R::Cell],
 ) -> Result<(), LayoutFault>
-    ensures answer { λ r. ⌜ r ≡ size-answer (all-fit (2 ^ O·Order .log (now (order .entry))) (five (now (table .entry)) (now (u0 .entry)) (now (u1 .entry)) (now (v0 .entry)) (now (v1 .entry)))) ⌝ }
-    ensures walk { λ _. ⌜ five (now (table .exit)) (now (u0 .exit)) (now (u1 .exit)) (now (v0 .exit)) (now (v1 .exit)) ≡ cond (all-fit (2 ^ O·Order .log (now (order .entry))) (five (now (table .entry)) (now (u0 .entry)) (now (u1 .entry)) (now (v0 .entry)) (now (v1 .entry)))) (walk (R·Rule .means (now (rule .entry))) (S·UpdateSet .member (now (set .entry))) (2 ^ O·Order .log (now (order .entry))) (O·Order .at (now (order .entry))) (now (table .entry))) (five (now (table .entry)) (now (u0 .entry)) (now (u1 .entry)) (now (v0 .entry)) (now (v1 .entry))) ⌝ }
-    ensures looped { λ _. ⌜ (all-fit (2 ^ O·Order .log (now (order .entry))) (five (now (table .entry)) (now (u0 .entry)) (now (u1 .entry)) (now (v0 .entry)) (now (v1 .entry))) ≡ true → Leaves-loop (R·Rule .means (now (rule .entry))) (S·UpdateSet .member (now (set .entry))) (2 ^ O·Order .log (now (order .entry))) (now (table .entry)) (five (now (table .exit)) (now (u0 .exit)) (now (u1 .exit)) (now (v0 .exit)) (now (v1 .exit)))) ⌝ }
+    ensures answer { λ r. ⌜ r ≡ careful-answer (O·Order .log (now (order .entry))) (five (now (table .entry)) (now (u0 .entry)) (now (u1 .entry)) (now (v0 .entry)) (now (v1 .entry))) ⌝ }
+    ensures walk { λ _. ⌜ five (now (table .exit)) (now (u0 .exit)) (now (u1 .exit)) (now (v0 .exit)) (now (v1 .exit)) ≡ careful-tables (R·Rule .means (now (rule .entry))) (S·UpdateSet .member (now (set .entry))) (O·Order .log (now (order .entry))) (O·Order .at (now (order .entry))) (five (now (table .entry)) (now (u0 .entry)) (now (u1 .entry)) (now (v0 .entry)) (now (v1 .entry))) ⌝ }
+    ensures looped { λ _. ⌜ Careful-is-loop (R·Rule .means (now (rule .entry))) (S·UpdateSet .member (now (set .entry))) (O·Order .log (now (order .entry))) (five (now (table .entry)) (now (u0 .entry)) (now (u1 .entry)) (now (v0 .entry)) (now (v1 .entry))) (five (now (table .exit)) (now (u0 .exit)) (now (u1 .exit)) (now (v0 .exit)) (now (v1 .exit))) ⌝ }
 {
     let n = sites(order);
     if !all_sized(n * n, table.len(), u0.len(), u1.len(), v0.len(), v1.len()) {

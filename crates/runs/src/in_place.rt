@@ -1,12 +1,11 @@
 // The run in place.
 ghost use mathlib.Core.Path.{_≡_};
-ghost use mathlib.Core.Bool.{cond};
-ghost use Prim.Native.Nat.{_*_, _^_, _<_, _≤_};
+ghost use Prim.Native.Nat.{_*_, _^_, _≤_};
 ghost use lib.ListN.{length, getD};
 ghost use Rattle.orders.specs.Lawful.{Within};
 ghost use Rattle.elimination.specs.Table.{place};
-ghost use Rattle.elimination.specs.Loop.{value-in-place, step-in-place, looped, run-in-place};
-ghost use Rattle.runs.specs.Sizes.{fits, size-answer, loop-fits, loop-answer};
+ghost use Rattle.elimination.specs.Loop.{value-in-place, step-in-place, run-in-place};
+ghost use Rattle.runs.specs.Results.{in-place-answer, in-place-table, loop-answer, loop-table};
 use crate::cells::cell_at;
 use crate::cells::place_of;
 use crate::rule::Rule;
@@ -28,8 +27,8 @@ pub fn run_in_place<R: Rule, S: UpdateSet, O: Order>(
     order: &O,
     table: &mut [R::Cell],
 ) -> Result<(), LayoutFault>
-    ensures answer { λ r. ⌜ r ≡ size-answer (fits (2 ^ O·Order .log (now (order .entry))) (now (table .entry))) ⌝ }
-    ensures table { λ _. ⌜ now (table .exit) ≡ cond (fits (2 ^ O·Order .log (now (order .entry))) (now (table .entry))) (run-in-place (R·Rule .means (now (rule .entry))) (S·UpdateSet .member (now (set .entry))) (2 ^ O·Order .log (now (order .entry))) (O·Order .at (now (order .entry))) (now (table .entry))) (now (table .entry)) ⌝ }
+    ensures answer { λ r. ⌜ r ≡ in-place-answer (O·Order .log (now (order .entry))) (now (table .entry)) ⌝ }
+    ensures table { λ _. ⌜ now (table .exit) ≡ in-place-table (R·Rule .means (now (rule .entry))) (S·UpdateSet .member (now (set .entry))) (O·Order .log (now (order .entry))) (O·Order .at (now (order .entry))) (now (table .entry)) ⌝ }
 {
     let n = sites(order);
     if table.len() != n * n {
@@ -50,7 +49,7 @@ pub fn run_loop<R: Rule, S: UpdateSet>(
     table: &mut [R::Cell],
 ) -> Result<(), LayoutFault>
     ensures answer { λ r. ⌜ r ≡ loop-answer exponent (now (table .entry)) ⌝ }
-    ensures table { λ _. ⌜ now (table .exit) ≡ cond (loop-fits exponent (now (table .entry))) (looped (R·Rule .means (now (rule .entry))) (S·UpdateSet .member (now (set .entry))) (2 ^ exponent) (now (table .entry))) (now (table .entry)) ⌝ }
+    ensures table { λ _. ⌜ now (table .exit) ≡ loop-table (R·Rule .means (now (rule .entry))) (S·UpdateSet .member (now (set .entry))) exponent (now (table .entry)) ⌝ }
 {
     let order = LoopOrder::new(exponent)?;
     run_by_loop_order(rule, set, &order, table)
@@ -63,8 +62,8 @@ fn run_by_loop_order<R: Rule, S: UpdateSet>(
     order: &LoopOrder,
     table: &mut [R::Cell],
 ) -> Result<(), LayoutFault>
-    ensures answer { λ r. ⌜ r ≡ size-answer (fits (2 ^ now (order .entry) .exponent) (now (table .entry))) ⌝ }
-    ensures table { λ _. ⌜ now (table .exit) ≡ cond (fits (2 ^ now (order .entry) .exponent) (now (table .entry))) (looped (R·Rule .means (now (rule .entry))) (S·UpdateSet .member (now (set .entry))) (2 ^ now (order .entry) .exponent) (now (table .entry))) (now (table .entry)) ⌝ }
+    ensures answer { λ r. ⌜ r ≡ loop-answer (now (order .entry) .exponent) (now (table .entry)) ⌝ }
+    ensures table { λ _. ⌜ now (table .exit) ≡ loop-table (R·Rule .means (now (rule .entry))) (S·UpdateSet .member (now (set .entry))) (now (order .entry) .exponent) (now (table .entry)) ⌝ }
 {
     run_in_place(rule, set, order, table)
 }

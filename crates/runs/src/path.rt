@@ -1,5 +1,4 @@
 // The rule of best paths.
-ghost use mathlib.Core.Path.{_≡_};
 use crate::rule::Rule;
 use kinds::kind::Kind;
 use std::marker::PhantomData;

@@ -1,5 +1,4 @@
 // The rule that adds the four cells.
-ghost use mathlib.Core.Path.{_≡_};
 ghost use Prim.Native.Nat.{_+_, _%_, _^_};
 use crate::rule::Rule;
 

@@ -1,5 +1,4 @@
 // The rule that keeps the surer delivery.
-ghost use mathlib.Core.Path.{_≡_};
 ghost use Rattle.runs.specs.Sure.{surer};
 use crate::rule::Rule;
 

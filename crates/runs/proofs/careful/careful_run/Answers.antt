@@ -4,7 +4,8 @@ use mathlib.Core.Bool.{true, cond}
 use Prim.Native.Nat.{_^_}
 use Rattle.elimination.specs.Walk.{five, walk, Leaves-loop}
 use Rattle.elimination.proofs.WalkIsLoop.{walk-leaves-loop}
-use Rattle.runs.specs.Sizes.{all-fit, size-answer}
+use Rattle.runs.specs.Sizes.{all-fit}
+use Rattle.runs.specs.Results.{size-answer}
 use Rattle.runs.proofs.Fitting.{table-fits}
 use Rattle.runs.proofs.careful.careful_run.Needs as need
 

@@ -1,7 +1,7 @@
 -- A step in the set writes its cell and keeps it in the side tables; one outside it leaves the five tables.
-use mathlib.Core.Path.{_≡_, sym, ap, subst, _∙_}
+use mathlib.Core.Path.{sym, ap, subst, _∙_}
 use mathlib.Core.Bool.{cond}
-use Prim.Native.Nat.{_*_, _<_}
+use Prim.Native.Nat.{_<_}
 use lib.Dec.{ltb, leb}
 use lib.ListN.{length, set}
 use Rattle.elimination.specs.Table.{place}
