@@ -46,40 +46,13 @@ module _ {X : Type 0} (rule : X → X → X → X → X) (member : Step → Bool
   abbrev pub Walked : ℕ → Tables X → Type 0
   Walked t T = (i j : ℕ) → i < n → j < n → Cell t i j T
 
-  -- the side tables at a cell that has passed as many pivots as they keep
-  module _ (t : ℕ) (T : Tables X) (walked : Walked t T) (a b : ℕ) (ha : a < n) (hb : b < n) where
-    enough : (m : ℕ) → m ≤ n → ((h : ℕ) → h < m → lawful .when (step-of a b h) < t) → m ≤ walked a b ha hb .level
-    enough m = level-at-least n (lawful .when) (seen a b) d t a b T (walked a b ha hb) m
-
-    pub settled-table : ((h : ℕ) → h < n → lawful .when (step-of a b h) < t) → getD (T .table) (place n a b) d ≡ seen a b n
-    settled-table done =
-        let c = walked a b ha hb in
-        let e : c .level ≡ n = omega (arith, enough n (omega arith) done, c .most) in
-        c .table ∙ ap (seen a b) e
-
-    pub settled-u0 : ((h : ℕ) → h < b → lawful .when (step-of a b h) < t) → getD (T .u0) (place n a b) d ≡ seen a b b
-    settled-u0 done =
-        let c = walked a b ha hb in
-        let e : min (c .level) b ≡ b = omega (arith, enough b (omega arith) done) in
-        c .u0 ∙ ap (seen a b) e
-
-    pub settled-u1 : ((h : ℕ) → h < suc b → lawful .when (step-of a b h) < t) → getD (T .u1) (place n a b) d ≡ seen a b (suc b)
-    settled-u1 done =
-        let c = walked a b ha hb in
-        let e : min (c .level) (suc b) ≡ suc b = omega (arith, enough (suc b) (omega arith) done) in
-        c .u1 ∙ ap (seen a b) e
-
-    pub settled-v0 : ((h : ℕ) → h < a → lawful .when (step-of a b h) < t) → getD (T .v0) (place n a b) d ≡ seen a b a
-    settled-v0 done =
-        let c = walked a b ha hb in
-        let e : min (c .level) a ≡ a = omega (arith, enough a (omega arith) done) in
-        c .v0 ∙ ap (seen a b) e
-
-    pub settled-v1 : ((h : ℕ) → h < suc a → lawful .when (step-of a b h) < t) → getD (T .v1) (place n a b) d ≡ seen a b (suc a)
-    settled-v1 done =
-        let c = walked a b ha hb in
-        let e : min (c .level) (suc a) ≡ suc a = omega (arith, enough (suc a) (omega arith) done) in
-        c .v1 ∙ ap (seen a b) e
+  -- A table that keeps a cell up to the threshold θ has it as the loop has it after its pivots below θ, once the steps
+  -- of the cell with those pivots stand before t.
+  pub settled : (t i j : ℕ) (T : Tables X) (c : Cell t i j T) (θ : ℕ) (y : X) → θ ≤ n → ((h : ℕ) → h < θ → lawful .when (step-of i j h) < t)
+      → y ≡ seen i j (min (c .level) θ) → y ≡ seen i j θ
+  settled t i j T c θ y most done kept =
+      let passed = level-at-least n (lawful .when) (seen i j) d t i j T c θ most done in
+      kept ∙ ap (seen i j) (omega arith)
 
   pub walked-start : Walked 0 (copies xs)
   walked-start i j hi hj =

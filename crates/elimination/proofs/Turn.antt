@@ -17,7 +17,7 @@ use Rattle.elimination.specs.Walk.{Tables, row-side, column-side, pivot-side, 
 use Rattle.elimination.proofs.Tables.{place-below, place-row, place-column, getD-changed-same, length-changed}
 use Rattle.elimination.proofs.Pivot.{pivot-outside, pivot-inside}
 use Rattle.elimination.proofs.Sides.{copied-here, read-side, side-stored, side-left, Long, careful-outside, careful-inside, careful-elsewhere, worked}
-use Rattle.elimination.proofs.Passing.{seen, Cell, Walked, settled-u0, settled-u1, settled-v0, settled-v1}
+use Rattle.elimination.proofs.Passing.{seen, Cell, Walked, settled}
 
 -- what holds of each number below k and of k holds of each below suc k
 one-more : (P : ℕ → Type 0) (k : ℕ) → ((h : ℕ) → h < k → P h) → P k → (h : ℕ) → h < suc k → P h
@@ -48,6 +48,10 @@ module _ {X : Type 0} (rule : X → X → X → X → X) (member : Step → Bool
   abbrev when : Step → ℕ
   when = lawful .when
 
+  -- the loop's table, and its cell (a, b), after the pivots below m
+  abbrev loop-cell : ℕ → ℕ → ℕ → X
+  loop-cell = seen rule member n at lawful xs d long
+
   abbrev after : ℕ → List X
   after m = loop-until rule member n m xs
 
@@ -61,8 +65,8 @@ module _ {X : Type 0} (rule : X → X → X → X → X) (member : Step → Bool
   now-at = lawful .once t ht
 
   -- a step that stands before this one
-  earlier : (r : Step) → when r < when (step-of i j k) → when r < t
-  earlier r h = subst (λ m. when r < m) now-at h
+  earlier-than : (r : Step) → when r < when (step-of i j k) → when r < t
+  earlier-than r h = subst (λ m. when r < m) now-at h
 
   own : Cell rule member n at lawful xs d long t i j T
   own = walked i j (inside .row) (inside .column)
@@ -77,58 +81,59 @@ module _ {X : Type 0} (rule : X → X → X → X → X) (member : Step → Bool
       (λ (more : k < own .level). absurd (omega (arith, own .behind k more, now-at))))
       (cases-order (own .level) k)
 
-  -- what the step reads from the side tables is what the loop reads
+  -- What the step reads from a side table is what the loop reads: `later` keeps cell (a, b) up to pivot k, `earlier` up to
+  -- the pivots below k, and the cell's steps with those pivots stand before this one.
+  reads : (a b : ℕ) (ha : a < n) (hb : b < n) (passed : Bool) (later earlier : List X) → length later ≡ n * n → length earlier ≡ n * n
+      → getD later (place n a b) d ≡ loop-cell a b (min (walked a b ha hb .level) (suc k)) → getD earlier (place n a b) d ≡ loop-cell a b (min (walked a b ha hb .level) k)
+      → ((h : ℕ) → h < k → when (step-of a b h) < when (step-of i j k)) → (passed ≡ true → when (step-of a b k) < when (step-of i j k))
+      → (x : X) → getD (cond passed later earlier) (place n a b) x ≡ getD (cond passed (after (suc k)) (after k)) (place n a b) d
+  reads a b ha hb passed later earlier long-later long-earlier kept-later kept-earlier below at-pivot x =
+      let c = walked a b ha hb in
+      let before : (h : ℕ) → h < k → when (step-of a b h) < t = λ h l. earlier-than (step-of a b h) (below h l) in
+      let through : passed ≡ true → (h : ℕ) → h < suc k → when (step-of a b h) < t = λ e.
+      one-more (λ h. when (step-of a b h) < t) k before (earlier-than (step-of a b k) (at-pivot e)) in
+      read-side passed later earlier (after (suc k)) (after k) (place n a b) x d (in-table a b later ha hb long-later) (in-table a b earlier ha hb long-earlier)
+      (λ e. settled rule member n at lawful xs d long t a b T c (suc k) _ (inside .pivot) (through e) kept-later)
+      (λ _. settled rule member n at lawful xs d long t a b T c k _ (omega (arith, inside .pivot)) before kept-earlier)
+
   reads-row : (x : X) → getD (row-side s T) (place n i k) x ≡ getD (cond (ltb k j) (after (suc k)) (after k)) (place n i k) d
-  reads-row x =
-      let before : (h : ℕ) → h < k → when (step-of i k h) < t = λ h l. earlier (step-of i k h) (lawful .after-row i j k h inside l) in
-      read-side (ltb k j) (T .u1) (T .u0) (after (suc k)) (after k) (place n i k) x d
-      (in-table i k (T .u1) (inside .row) (inside .pivot) (longT .u1))
-      (in-table i k (T .u0) (inside .row) (inside .pivot) (longT .u0))
-      (λ e.
-      settled-u1 rule member n at lawful xs d long t T walked i k (inside .row) (inside .pivot)
-      (one-more (λ h. when (step-of i k h) < t) k before (earlier (step-of i k k) (lawful .after-row-done i j k inside (ltb-true k j e)))))
-      (λ _. settled-u0 rule member n at lawful xs d long t T walked i k (inside .row) (inside .pivot) before)
+  reads-row =
+      let c = walked i k (inside .row) (inside .pivot) in
+      reads i k (inside .row) (inside .pivot) (ltb k j) (T .u1) (T .u0) (longT .u1) (longT .u0) (c .u1) (c .u0)
+      (λ h. lawful .after-row i j k h inside) (λ e. lawful .after-row-done i j k inside (ltb-true k j e))
 
   reads-column : (x : X) → getD (column-side s T) (place n k j) x ≡ getD (cond (ltb k i) (after (suc k)) (after k)) (place n k j) d
-  reads-column x =
-      let before : (h : ℕ) → h < k → when (step-of k j h) < t = λ h l. earlier (step-of k j h) (lawful .after-column i j k h inside l) in
-      read-side (ltb k i) (T .v1) (T .v0) (after (suc k)) (after k) (place n k j) x d
-      (in-table k j (T .v1) (inside .pivot) (inside .column) (longT .v1))
-      (in-table k j (T .v0) (inside .pivot) (inside .column) (longT .v0))
-      (λ e.
-      settled-v1 rule member n at lawful xs d long t T walked k j (inside .pivot) (inside .column)
-      (one-more (λ h. when (step-of k j h) < t) k before (earlier (step-of k j k) (lawful .after-column-done i j k inside (ltb-true k i e)))))
-      (λ _. settled-v0 rule member n at lawful xs d long t T walked k j (inside .pivot) (inside .column) before)
+  reads-column =
+      let c = walked k j (inside .pivot) (inside .column) in
+      reads k j (inside .pivot) (inside .column) (ltb k i) (T .v1) (T .v0) (longT .v1) (longT .v0) (c .v1) (c .v0)
+      (λ h. lawful .after-column i j k h inside) (λ e. lawful .after-column-done i j k inside (ltb-true k i e))
 
-  pivot-stands-before : pivot-done s ≡ true → when (step-of k k k) < t
+  pivot-stands-before : pivot-done s ≡ true → when (step-of k k k) < when (step-of i j k)
   pivot-stands-before e =
-      earlier (step-of k k k)
-      (⊎-elim
+      ⊎-elim
       (λ below. lawful .after-pivot-done-below i j k inside (ltb-true k i below))
       (λ right.
       let both = and-parts (eqb i k) (ltb k j) right in
       lawful .after-pivot-done-right i j k inside (eqb-true i k (both .0)) (ltb-true k j (both .1)))
-      (or-cases (ltb k i) (eqb i k && ltb k j) e))
+      (or-cases (ltb k i) (eqb i k && ltb k j) e)
 
   reads-pivot : (x : X) → getD (pivot-side s T) (place n k k) x ≡ getD (cond (pivot-done s) (after (suc k)) (after k)) (place n k k) d
-  reads-pivot x =
-      let before : (h : ℕ) → h < k → when (step-of k k h) < t = λ h l. earlier (step-of k k h) (lawful .after-pivot i j k h inside l) in
-      read-side (pivot-done s) (T .u1) (T .u0) (after (suc k)) (after k) (place n k k) x d
-      (in-table k k (T .u1) (inside .pivot) (inside .pivot) (longT .u1))
-      (in-table k k (T .u0) (inside .pivot) (inside .pivot) (longT .u0))
-      (λ e.
-      settled-u1 rule member n at lawful xs d long t T walked k k (inside .pivot) (inside .pivot)
-      (one-more (λ h. when (step-of k k h) < t) k before (pivot-stands-before e)))
-      (λ _. settled-u0 rule member n at lawful xs d long t T walked k k (inside .pivot) (inside .pivot) before)
+  reads-pivot =
+      let c = walked k k (inside .pivot) (inside .pivot) in
+      reads k k (inside .pivot) (inside .pivot) (pivot-done s) (T .u1) (T .u0) (longT .u1) (longT .u0) (c .u1) (c .u0)
+      (λ h. lawful .after-pivot i j k h inside) pivot-stands-before
+
+  abbrev own-cell : ℕ → X
+  own-cell = loop-cell i j
 
   -- so the cell becomes what the loop makes of it
   abbrev T′ : Tables X
   T′ = worked rule member n s T
 
-  new-value : member s ≡ true → getD (T′ .table) p d ≡ seen rule member n at lawful xs d long i j (suc k)
+  new-value : member s ≡ true → getD (T′ .table) p d ≡ own-cell (suc k)
   new-value e =
       let x : X = getD (T .table) p d in
-      let was : x ≡ getD (after k) p d = own .table ∙ ap (seen rule member n at lawful xs d long i j) own-level in
+      let was : x ≡ getD (after k) p d = own .table ∙ ap (own-cell) own-level in
       let u = reads-row x in
       let v = reads-column x in
       let w = reads-pivot x in
@@ -139,12 +144,9 @@ module _ {X : Type 0} (rule : X → X → X → X → X) (member : Step → Bool
   abbrev Next : ℕ → ℕ → Tables X → Type 0
   Next a b U = Cell rule member n at lawful xs d long (suc t) a b U
 
-  abbrev loop-cell : ℕ → X
-  loop-cell = seen rule member n at lawful xs d long i j
-
   -- the cell of this step passes pivot k
-  passes : (U : Tables X) → getD (U .table) p d ≡ loop-cell (suc k) → getD (U .u0) p d ≡ loop-cell (min (suc k) j) → getD (U .u1) p d ≡ loop-cell (min (suc k) (suc j))
-      → getD (U .v0) p d ≡ loop-cell (min (suc k) i) → getD (U .v1) p d ≡ loop-cell (min (suc k) (suc i)) → Next i j U
+  passes : (U : Tables X) → getD (U .table) p d ≡ own-cell (suc k) → getD (U .u0) p d ≡ own-cell (min (suc k) j) → getD (U .u1) p d ≡ own-cell (min (suc k) (suc j))
+      → getD (U .v0) p d ≡ own-cell (min (suc k) i) → getD (U .v1) p d ≡ own-cell (min (suc k) (suc i)) → Next i j U
   passes U table u0 u1 v0 v1 = record {
     level = suc k;
     most = inside .pivot;
@@ -162,18 +164,18 @@ module _ {X : Type 0} (rule : X → X → X → X → X) (member : Step → Bool
   }
 
   -- what the five tables had of the cell, at level k
-  was : (θ : ℕ) (y : X) → y ≡ loop-cell (min (own .level) θ) → y ≡ loop-cell (min k θ)
-  was θ y e = e ∙ ap (λ m. loop-cell (min m θ)) own-level
+  was : (θ : ℕ) (y : X) → y ≡ own-cell (min (own .level) θ) → y ≡ own-cell (min k θ)
+  was θ y e = e ∙ ap (λ m. own-cell (min m θ)) own-level
 
   own-outside : member s ≡ false → Next i j T
   own-outside e =
-      let same : loop-cell (suc k) ≡ loop-cell k = pivot-outside rule member n k xs d long i j (inside .row) (inside .column) e in
+      let same : own-cell (suc k) ≡ own-cell k = pivot-outside rule member n k xs d long i j (inside .row) (inside .column) e in
       passes T
-      (own .table ∙ ap loop-cell own-level ∙ sym same)
-      (side-left loop-cell j k _ same (was j _ (own .u0)))
-      (side-left loop-cell (suc j) k _ same (was (suc j) _ (own .u1)))
-      (side-left loop-cell i k _ same (was i _ (own .v0)))
-      (side-left loop-cell (suc i) k _ same (was (suc i) _ (own .v1)))
+      (own .table ∙ ap own-cell own-level ∙ sym same)
+      (side-left own-cell j k _ same (was j _ (own .u0)))
+      (side-left own-cell (suc j) k _ same (was (suc j) _ (own .u1)))
+      (side-left own-cell i k _ same (was i _ (own .v0)))
+      (side-left own-cell (suc i) k _ same (was (suc i) _ (own .v1)))
 
   own-inside : member s ≡ true → Next i j T′
   own-inside e =
@@ -183,13 +185,13 @@ module _ {X : Type 0} (rule : X → X → X → X → X) (member : Step → Bool
       let at-side : (ys : List X) → length ys ≡ n * n → p < length ys = λ ys. in-table i j ys (inside .row) (inside .column) in
       passes T′ new
       (copied-here (ltb k j) (T′ .table) p (T .u0) d stored (at-side (T .u0) (longT .u0))
-      ∙ side-stored loop-cell j k (ltb k j) _ _ (ltb-true k j) (ltb-false k j) new (was j _ (own .u0)))
+      ∙ side-stored own-cell j k (ltb k j) _ _ (ltb-true k j) (ltb-false k j) new (was j _ (own .u0)))
       (copied-here (leb k j) (T′ .table) p (T .u1) d stored (at-side (T .u1) (longT .u1))
-      ∙ side-stored loop-cell (suc j) k (leb k j) _ _ (λ e. omega (arith, leb-true k j e)) (λ e. omega (arith, leb-false k j e)) new (was (suc j) _ (own .u1)))
+      ∙ side-stored own-cell (suc j) k (leb k j) _ _ (λ e. omega (arith, leb-true k j e)) (λ e. omega (arith, leb-false k j e)) new (was (suc j) _ (own .u1)))
       (copied-here (ltb k i) (T′ .table) p (T .v0) d stored (at-side (T .v0) (longT .v0))
-      ∙ side-stored loop-cell i k (ltb k i) _ _ (ltb-true k i) (ltb-false k i) new (was i _ (own .v0)))
+      ∙ side-stored own-cell i k (ltb k i) _ _ (ltb-true k i) (ltb-false k i) new (was i _ (own .v0)))
       (copied-here (leb k i) (T′ .table) p (T .v1) d stored (at-side (T .v1) (longT .v1))
-      ∙ side-stored loop-cell (suc i) k (leb k i) _ _ (λ e. omega (arith, leb-true k i e)) (λ e. omega (arith, leb-false k i e)) new (was (suc i) _ (own .v1)))
+      ∙ side-stored own-cell (suc i) k (leb k i) _ _ (λ e. omega (arith, leb-true k i e)) (λ e. omega (arith, leb-false k i e)) new (was (suc i) _ (own .v1)))
 
   own-after : Next i j (careful-step rule member n s T)
   own-after =

@@ -1,9 +1,9 @@
 -- The careful walk leaves the loop's table, and in the side tables what the loop has at each threshold. Assumes that the
 -- order is lawful.
-use mathlib.Core.Path.{_≡_, sym, _∙_, subst}
+use mathlib.Core.Path.{_≡_, sym, ap, _∙_, subst}
 use mathlib.Core.Bool.{Bool}
 use mathlib.Core.List.{List}
-use Prim.Native.Nat.{ℕ, zero, suc, _*_, _/_, _%_, _<_, _≤_}
+use Prim.Native.Nat.{ℕ, zero, suc, _*_, _/_, _%_, _<_, _≤_, min}
 use native.Mathlib.Omega.{arith}
 use lib.ListN.{length, getD}
 use Rattle.std.proofs.shelf.Bits.{div-add-mod', div-below, mod-below}
@@ -16,7 +16,7 @@ use Rattle.elimination.specs.Loop.{loop-until, looped}
 use Rattle.elimination.specs.Walk.{Tables, walk-until, walk, Leaves-loop}
 use Rattle.elimination.proofs.Pivot.{length-loop-until}
 use Rattle.elimination.proofs.Sides.{Long, careful-long}
-use Rattle.elimination.proofs.Passing.{Walked, walked-start, settled-table, settled-u0, settled-u1, settled-v0, settled-v1}
+use Rattle.elimination.proofs.Passing.{Cell, Walked, walked-start, settled}
 use Rattle.elimination.proofs.Turn.{walked-turn}
 
 -- each place of a table is the place of a cell
@@ -40,28 +40,20 @@ module _ {X : Type 0} (rule : X → X → X → X → X) (member : Step → Bool
   reached-walked d (suc t) h =
       walked-turn rule member n at lawful xs d long t h (reached t) (reached-long t) (reached-walked d t (omega arith))
 
-  -- at the end every step of every cell is done
+  -- at the end every step of every cell is done, so that each threshold is reached
   module _ (d : X) (i j : ℕ) (hi : i < n) (hj : j < n) where
-    ended : Walked rule member n at lawful xs d long (step-count n) (reached (step-count n))
-    ended = reached-walked d (step-count n) (omega arith)
+    ended : Cell rule member n at lawful xs d long (step-count n) i j (reached (step-count n))
+    ended = reached-walked d (step-count n) (omega arith) i j hi hj
 
-    all-done : (m : ℕ) → m ≤ n → (h : ℕ) → h < m → lawful .when (step-of i j h) < step-count n
-    all-done m most h l = lawful .below (step-of i j h) (record { row = hi; column = hj; pivot = omega arith })
+    at-end : (θ : ℕ) (y : X) → θ ≤ n → y ≡ getD (loop-until rule member n (min (ended .level) θ) xs) (place n i j) d → y ≡ getD (loop-until rule member n θ xs) (place n i j) d
+    at-end θ y most =
+        settled rule member n at lawful xs d long (step-count n) i j (reached (step-count n)) ended θ y most
+        (λ h l. lawful .below (step-of i j h) (record { row = hi; column = hj; pivot = omega arith }))
 
     end-table : getD (reached (step-count n) .table) (place n i j) d ≡ getD (looped rule member n xs) (place n i j) d
-    end-table = settled-table rule member n at lawful xs d long (step-count n) (reached (step-count n)) ended i j hi hj (all-done n (omega arith))
-
-    end-u0 : getD (reached (step-count n) .u0) (place n i j) d ≡ getD (loop-until rule member n j xs) (place n i j) d
-    end-u0 = settled-u0 rule member n at lawful xs d long (step-count n) (reached (step-count n)) ended i j hi hj (all-done j (omega arith))
-
-    end-u1 : getD (reached (step-count n) .u1) (place n i j) d ≡ getD (loop-until rule member n (suc j) xs) (place n i j) d
-    end-u1 = settled-u1 rule member n at lawful xs d long (step-count n) (reached (step-count n)) ended i j hi hj (all-done (suc j) hj)
-
-    end-v0 : getD (reached (step-count n) .v0) (place n i j) d ≡ getD (loop-until rule member n i xs) (place n i j) d
-    end-v0 = settled-v0 rule member n at lawful xs d long (step-count n) (reached (step-count n)) ended i j hi hj (all-done i (omega arith))
-
-    end-v1 : getD (reached (step-count n) .v1) (place n i j) d ≡ getD (loop-until rule member n (suc i) xs) (place n i j) d
-    end-v1 = settled-v1 rule member n at lawful xs d long (step-count n) (reached (step-count n)) ended i j hi hj (all-done (suc i) hi)
+    end-table =
+        let all : ended .level ≡ min (ended .level) n = omega (arith, ended .most) in
+        at-end n _ (omega arith) (ended .table ∙ ap (λ m. getD (loop-until rule member n m xs) (place n i j) d) all)
 
   same-table : reached (step-count n) .table ≡ looped rule member n xs
   same-table =
@@ -75,10 +67,10 @@ module _ {X : Type 0} (rule : X → X → X → X → X) (member : Step → Bool
   pub walk-leaves-loop : Leaves-loop rule member n xs (walk rule member n at xs)
   walk-leaves-loop = record {
     table = same-table;
-    u0 = λ i j d hi hj. end-u0 d i j hi hj;
-    u1 = λ i j d hi hj. end-u1 d i j hi hj;
-    v0 = λ i j d hi hj. end-v0 d i j hi hj;
-    v1 = λ i j d hi hj. end-v1 d i j hi hj;
+    u0 = λ i j d hi hj. at-end d i j hi hj j _ (omega arith) (ended d i j hi hj .u0);
+    u1 = λ i j d hi hj. at-end d i j hi hj (suc j) _ hj (ended d i j hi hj .u1);
+    v0 = λ i j d hi hj. at-end d i j hi hj i _ (omega arith) (ended d i j hi hj .v0);
+    v1 = λ i j d hi hj. at-end d i j hi hj (suc i) _ hi (ended d i j hi hj .v1);
   }
 
   pub walk-long : Long n (walk rule member n at xs)

@@ -5,7 +5,8 @@ ghost use Rattle.kinds.specs.Kind.{Covers};
 ghost use Rattle.kinds.specs.Covering.{Covering};
 use crate::kind::Kind;
 
-/// Whether `a` covers `b`: `a` joined with `b` is `a`. In every kind that is an order which join and chain respect.
+/// Whether `a` covers `b`: `a` joined with `b` is `a`. In every kind that is an order which join and
+/// chain respect.
 pub fn covers<V: Kind>(a: V, b: V) -> bool
     ensures answer { λ r. ⌜ r ≡ ops .same (ops .join a b) a ⌝ }
     ensures decides { λ r. ⌜ Decides r (Covers ops a b) ⌝ }

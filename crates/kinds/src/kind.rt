@@ -2,7 +2,8 @@
 ghost use mathlib.Core.Path.{_≡_};
 ghost use Rattle.kinds.specs.Kind.{Ops, Laws};
 
-/// A type of values that routes are measured by. Its calls answer by `ops`, refuse nothing and alter nothing.
+/// A type of values that routes are measured by. Its calls answer by `ops`, refuse nothing and
+/// alter nothing.
 pub trait Kind: Copy {
     // What the calls answer.
     ghost ops: { Ops Self };

@@ -1,4 +1,5 @@
-// A choice that is no kind: the larger width first, then the smaller cost. Its chain does not go into its join.
+// A choice that is no kind: the larger width first, then the smaller cost. Chain does not
+// distribute over it.
 ghost use mathlib.Core.Path.{_≡_};
 ghost use Rattle.kinds.specs.Widest.{preferred, chained, wide-route, narrow-route, shared-link, No-kind};
 use crate::cells::Cost;
@@ -66,8 +67,9 @@ impl WidestCheapest {
     }
 }
 
-/// The two sides of the distributive law at (10, 9), (5, 1) and (5, 0), which differ: the preferred of the first two
-/// chained with the third, and the preferred of both when chained with the third. So this choice is no kind.
+/// The two sides of the distributive law at (10, 9), (5, 1) and (5, 0), which differ: the preferred
+/// of the first two chained with the third, and the preferred of both when chained with the third.
+/// So this choice is no kind.
 pub fn distributive_sides() -> (WidestCheapest, WidestCheapest)
     ensures first { λ r. ⌜ r .0 ≡ chained (preferred wide-route narrow-route) shared-link ⌝ }
     ensures second { λ r. ⌜ r .1 ≡ preferred (chained wide-route shared-link) (chained narrow-route shared-link) ⌝ }

@@ -52,6 +52,46 @@ fn sure_keeps_an_equal_fraction() -> Result<(), Fail> {
     check(r.fraction == 0.375 && r.delay == 9.0)
 }
 
+// Four sites with links from 0 to 1, from 1 to 2 and a worse one from 0 to 2.
+#[test]
+fn careful_run_over_deliveries() -> Result<(), Fail> {
+    let order = RecursiveOrder::new(2)?;
+    let lost = Delivery {
+        fraction: 0.0,
+        delay: 0.0,
+    };
+    let mut table = [lost; 16];
+    table[1] = Delivery {
+        fraction: 0.5,
+        delay: 2.0,
+    };
+    table[6] = Delivery {
+        fraction: 0.75,
+        delay: 4.0,
+    };
+    table[2] = Delivery {
+        fraction: 0.25,
+        delay: 1.0,
+    };
+    let mut u0 = [lost; 16];
+    let mut u1 = [lost; 16];
+    let mut v0 = [lost; 16];
+    let mut v1 = [lost; 16];
+    careful_run(
+        &Sure,
+        &AllSteps,
+        &order,
+        &mut table,
+        &mut u0,
+        &mut u1,
+        &mut v0,
+        &mut v1,
+    )?;
+    check(table[2].fraction == 0.375 && table[2].delay == 6.0)?;
+    check(table[1].fraction == 0.5 && table[1].delay == 2.0)?;
+    check(table[3].fraction == 0.0)
+}
+
 #[test]
 fn relays_are_the_bits_of_a_word() -> Result<(), Fail> {
     let relays = Relays { word: 9 };
