@@ -7,22 +7,22 @@ abbrev pub values : List Cost → List ℕ
 values cells = map (λ c. c .value) cells
 
 -- no link and no way
-abbrev - : ℕ
-- = 4294967295
+abbrev none : ℕ
+none = 4294967295
 
 abbrev row : ℕ → ℕ → ℕ → ℕ → List ℕ
 row a b c d = a ∷ b ∷ c ∷ d ∷ []
 
 abbrev pub link-costs : List ℕ
 link-costs =
-    row 0 4 20 -
-    ++ row - 0 9 -
-    ++ row - - 0 7
-    ++ row - 6 - 0
+    row 0 4 20 none
+    ++ row none 0 9 none
+    ++ row none none 0 7
+    ++ row none 6 none 0
 
 abbrev pub distance-costs : List ℕ
 distance-costs =
     row 0 4 13 20
-    ++ row - 0 9 16
-    ++ row - 13 0 7
-    ++ row - 6 15 0
+    ++ row none 0 9 16
+    ++ row none 13 0 7
+    ++ row none 6 15 0

@@ -22,6 +22,13 @@ pub(crate) fn summing(rt: &LibcRuntime) -> Result<(), Failure> {
     println!(rt, "The rule is a sum: for a pivot k, cell (i,j) becomes")?;
     println!(rt, "cell (i,j) + cell (i,k) + cell (k,j) + cell (k,k).")?;
     println!(rt, "")?;
+    three_ways(rt)?;
+    println!(rt, "")?;
+    Ok(())
+}
+
+// The three runs with what they leave, and how they compare.
+fn three_ways(rt: &LibcRuntime) -> Result<(), Failure> {
     let looped = summing::by_loop()?;
     println!(
         rt,
@@ -31,19 +38,20 @@ pub(crate) fn summing(rt: &LibcRuntime) -> Result<(), Failure> {
     let in_place = summing::in_place()?;
     println!(
         rt,
-        "2. In place: the same eight steps in the recursive order."
+        "2. In place: the same eight steps on one table, in the recursive order,"
     )?;
+    println!(rt, "   which goes through the quarters of the table.")?;
     two_sites(rt, &in_place)?;
     let careful = summing::careful()?;
     println!(
         rt,
-        "3. Careful: the recursive order again, reading from four side tables."
+        "3. Careful: the recursive order again, but each step reads what it needs"
     )?;
+    println!(rt, "   from four side tables.")?;
     two_sites(rt, &careful.table)?;
     side_tables(rt, &careful)?;
     compare(rt, "The run in place", &looped, &in_place)?;
     compare(rt, "The careful run", &looped, &careful.table)?;
-    println!(rt, "")?;
     Ok(())
 }
 

@@ -10,6 +10,7 @@ use Rattle.std.specs.declared.result.Result.the-variants.{Ok, Err}
 use Rattle.faults.specs.declared.LayoutFault.{LayoutFault}
 use Rattle.faults.specs.declared.LayoutFault.the-variants.{ExponentTooLarge, SizeMismatch}
 use Rattle.orders.specs.declared.step.Step.{Step}
+use Rattle.orders.specs.Lawful.{Lawful}
 use Rattle.elimination.specs.Loop.{looped, run-in-place}
 use Rattle.elimination.specs.Walk.{Tables, walk, Leaves-loop}
 use Rattle.runs.specs.Sizes.{fits, all-fit}
@@ -38,6 +39,11 @@ careful-answer q T = size-answer (all-fit (2 ^ q) T)
 
 abbrev pub careful-tables : {X : Type 0} → (X → X → X → X → X) → (Step → Bool) → ℕ → (ℕ → Step) → Tables X → Tables X
 careful-tables rule member q at T = cond (all-fit (2 ^ q) T) (walk rule member (2 ^ q) at (T .table)) T
+
+-- where the tables fit, the walk over the table leaves the loop's tables, for every lawful list of steps
+abbrev pub Walk-is-loop : {X : Type 0} → (X → X → X → X → X) → (Step → Bool) → ℕ → Tables X → Type 0
+Walk-is-loop rule member q T =
+    all-fit (2 ^ q) T ≡ true → (at : ℕ → Step) → Lawful (2 ^ q) at → Leaves-loop rule member (2 ^ q) (T .table) (walk rule member (2 ^ q) at (T .table))
 
 -- the careful run took the tables from T to U, and where they fit U is the loop's, whatever the order
 abbrev pub Careful-is-loop : {X : Type 0} → (X → X → X → X → X) → (Step → Bool) → ℕ → Tables X → Tables X → Type 0

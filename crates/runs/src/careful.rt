@@ -7,7 +7,7 @@ ghost use lib.ListN.{length, getD, set};
 ghost use Rattle.orders.specs.Lawful.{Within};
 ghost use Rattle.elimination.specs.Table.{place};
 ghost use Rattle.elimination.specs.Walk.{five, careful-value, careful-step, walk};
-ghost use Rattle.runs.specs.Results.{careful-answer, careful-tables, Careful-is-loop};
+ghost use Rattle.runs.specs.Results.{careful-answer, careful-tables, Walk-is-loop, Careful-is-loop};
 use crate::cells::cell_at;
 use crate::cells::place_of;
 use crate::cells::store_if;
@@ -36,6 +36,7 @@ pub fn careful_run<R: Rule, S: UpdateSet, O: Order>(
 ) -> Result<(), LayoutFault>
     ensures answer { λ r. ⌜ r ≡ careful-answer (O·Order .log (now (order .entry))) (five (now (table .entry)) (now (u0 .entry)) (now (u1 .entry)) (now (v0 .entry)) (now (v1 .entry))) ⌝ }
     ensures walk { λ _. ⌜ five (now (table .exit)) (now (u0 .exit)) (now (u1 .exit)) (now (v0 .exit)) (now (v1 .exit)) ≡ careful-tables (R·Rule .means (now (rule .entry))) (S·UpdateSet .member (now (set .entry))) (O·Order .log (now (order .entry))) (O·Order .at (now (order .entry))) (five (now (table .entry)) (now (u0 .entry)) (now (u1 .entry)) (now (v0 .entry)) (now (v1 .entry))) ⌝ }
+    ensures every_order { λ _. ⌜ Walk-is-loop (R·Rule .means (now (rule .entry))) (S·UpdateSet .member (now (set .entry))) (O·Order .log (now (order .entry))) (five (now (table .entry)) (now (u0 .entry)) (now (u1 .entry)) (now (v0 .entry)) (now (v1 .entry))) ⌝ }
     ensures looped { λ _. ⌜ Careful-is-loop (R·Rule .means (now (rule .entry))) (S·UpdateSet .member (now (set .entry))) (O·Order .log (now (order .entry))) (five (now (table .entry)) (now (u0 .entry)) (now (u1 .entry)) (now (v0 .entry)) (now (v1 .entry))) (five (now (table .exit)) (now (u0 .exit)) (now (u1 .exit)) (now (v0 .exit)) (now (v1 .exit))) ⌝ }
 {
     let n = sites(order);

@@ -1,7 +1,9 @@
 -- The walk is worked where all five tables fit, and it leaves the loop's table since the order is lawful.
 use mathlib.Core.Path.{_≡_, sym, ap, subst, _∙_}
 use mathlib.Core.Bool.{true, cond}
-use Prim.Native.Nat.{_^_}
+use Prim.Native.Nat.{ℕ, _^_}
+use Rattle.orders.specs.declared.step.Step.{Step}
+use Rattle.orders.specs.Lawful.{Lawful}
 use Rattle.elimination.specs.Walk.{five, walk, Leaves-loop}
 use Rattle.elimination.proofs.WalkIsLoop.{walk-leaves-loop}
 use Rattle.runs.specs.Sizes.{all-fit}
@@ -21,8 +23,11 @@ returns g c =
     let n-is = c .sites-n .ensures .power in
     let fit : all-fit n T ≡ true = subst (λ m. all-fit m T ≡ true) n-is (sym (c .all-sized .ensures) ∙ c .if-not-all-sized .left) in
     let walked : T′ ≡ walk rule member n at xs = c .walk-steps .ensures ∙ ap (λ m. walk rule member m at xs) n-is in
+    let every-order : (at : ℕ → Step) → Lawful n at → Leaves-loop rule member n xs (walk rule member n at xs) = λ at lawful.
+    walk-leaves-loop rule member n at lawful xs (table-fits n T fit) in
     record {
       answer = sym (ap size-answer fit);
       walk = walked ∙ sym (ap (λ b. cond b (walk rule member n at xs) T) fit);
-      looped = λ _. subst (Leaves-loop rule member n xs) (sym walked) (walk-leaves-loop rule member n at (g .O·Order·met .lawful (c .args .order .now)) xs (table-fits n T fit));
+      every-order = λ _. every-order;
+      looped = λ _. subst (Leaves-loop rule member n xs) (sym walked) (every-order at (g .O·Order·met .lawful (c .args .order .now)));
     }

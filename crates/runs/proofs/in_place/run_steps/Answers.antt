@@ -1,8 +1,5 @@
 -- The table is that of the run in place, step by step.
-use mathlib.Core.Path.{_≡_, sym, ap, _∙_}
-use native.Mathlib.Omega.{arith}
-use Rattle.orders.specs.Order.{step-count}
-use Rattle.elimination.specs.Loop.{run-until}
+use mathlib.Core.Path.{sym}
 use Rattle.elimination.proofs.Runs.{run-until-none, run-until-more}
 use Rattle.runs.proofs.in_place.run_steps.Needs as need
 
@@ -17,9 +14,3 @@ loop-t-again g c =
     let worked = c .apply-step .ensures in
     let before = c .loop-t .inv in
     cc
-
-pub returns : need.returns
-returns g c =
-    let done : c .loop-t .t ≡ step-count (c .args .n) = omega (arith, c .loop-t .kept .t-end, c .loop-t-test .left) in
-    c .loop-t .inv
-    ∙ ap (λ m. run-until (g .R·Rule .means (c .args .rule .now)) (g .S·UpdateSet .member (c .args .set .now)) (c .args .n) (g .O·Order .at (c .args .order .now)) m (c .args .table .now)) done
