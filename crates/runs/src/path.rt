@@ -1,4 +1,5 @@
 // The rule of best paths.
+ghost use mathlib.Core.Path.{_≡_};
 use crate::rule::Rule;
 use kinds::kind::Kind;
 use std::marker::PhantomData;
@@ -11,8 +12,10 @@ pub struct Path<V> {
 }
 
 impl<V> Path<V> {
-    /// The path rule of the kind V.
-    pub fn new() -> Path<V> {
+    /// The path rule of the kind V, of which there is only one.
+    pub fn new() -> Path<V>
+        ensures { λ r. ⌜ ((rule : Path V) → r ≡ rule) ⌝ }
+    {
         Path { kind: PhantomData }
     }
 }
