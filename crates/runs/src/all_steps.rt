@@ -4,7 +4,7 @@ use crate::update_set::UpdateSet;
 use orders::step::Step;
 
 /// Every step.
-#[derive(Clone, Copy, PartialEq, Eq, Debug)]
+#[derive(Clone, Copy)]
 pub struct AllSteps;
 
 pub impl UpdateSet for AllSteps as AllStepsSet {

@@ -5,7 +5,7 @@ use crate::update_set::UpdateSet;
 use orders::step::Step;
 
 /// The steps whose pivot is a relay: bit k of the word is 1.
-#[derive(Clone, Copy, PartialEq, Eq, Debug)]
+#[derive(Clone, Copy)]
 pub struct Relays {
     pub word: u64,
 }

@@ -3,7 +3,7 @@ ghost use Prim.Native.Nat.{_+_, _%_, _^_};
 use crate::rule::Rule;
 
 /// Adds the four cells, numbers of 32 bits, wrapping.
-#[derive(Clone, Copy, PartialEq, Eq, Debug)]
+#[derive(Clone, Copy)]
 pub struct Sum;
 
 pub impl Rule for Sum as SumRule {

@@ -3,7 +3,7 @@ ghost use Rattle.runs.specs.Sure.{surer};
 use crate::rule::Rule;
 
 /// What is known of a route's deliveries.
-#[derive(Clone, Copy, Debug)]
+#[derive(Clone, Copy)]
 pub struct Delivery {
     /// The fraction delivered.
     pub fraction: f64,
@@ -13,7 +13,7 @@ pub struct Delivery {
 
 /// Keeps x if its fraction is at least the product of those of u and v, else gives that product
 /// and the sum of their delays.
-#[derive(Clone, Copy, PartialEq, Eq, Debug)]
+#[derive(Clone, Copy)]
 pub struct Sure;
 
 pub impl Rule for Sure as SureRule {
