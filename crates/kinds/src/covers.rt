@@ -8,16 +8,16 @@ use crate::kind::Kind;
 /// Whether `a` covers `b`: `a` joined with `b` is `a`. In every kind that is an order which join and
 /// chain respect.
 pub fn covers<V: Kind>(a: V, b: V) -> bool
-    ensures answer { result ≡ ops.same (ops.join a b) a }
-    ensures decides { Decides result (Covers ops a b) }
-    ensures order { Covering ops }
+    ensures answer { result ≡ V.ops.same (V.ops.join a b) a }
+    ensures decides { Decides result (Covers V.ops a b) }
+    ensures order { Covering V.ops }
 {
     join_is_first(a, b)
 }
 
 // Whether the join of `a` and `b` is `a`.
 fn join_is_first<V: Kind>(a: V, b: V) -> bool
-    ensures { result ≡ ops.same (ops.join a b) a }
+    ensures { result ≡ V.ops.same (V.ops.join a b) a }
 {
     a.join(b).equals(a)
 }

@@ -6,7 +6,7 @@ use Rattle.kinds.proofs.covers.covers.Goals as goal
 pub returns : goal.returns
 returns g c =
     let k = g.met.V.Kind.lawful in
-    let e = c.join-is-first.ensures in
+    let e = c.join_is_first.ensures in
     record {
       answer = e;
       decides = (λ t. k.same_equal _ _ (sym e ∙ t), λ h. e ∙ k.equal_same _ _ h);

@@ -7,11 +7,11 @@ use Rattle.kinds.proofs.widest.distributive_sides.Goals as goal
 
 pub returns : goal.returns
 returns c =
-    let a = c.wide-route-a.ensures in
-    let b = c.narrow-route-b.ensures in
-    let l = c.shared-link-c.ensures in
-    let p = c.preferred-first.ensures ∙ ap₂ chained (ap₂ preferred a b) l in
-    let q = c.chained-first.ensures ∙ ap₂ preferred (ap₂ chained a l) (ap₂ chained b l) in
+    let a = c.wide_route-a.ensures in
+    let b = c.narrow_route-b.ensures in
+    let l = c.shared_link-c.ensures in
+    let p = c.preferred_first.ensures ∙ ap₂ chained (ap₂ preferred a b) l in
+    let q = c.chained_first.ensures ∙ ap₂ preferred (ap₂ chained a l) (ap₂ chained b l) in
     let width_of : WidestCheapest → ℕ = λ x. x.width.value in
     let cost_of : WidestCheapest → ℕ = λ x. x.cost.value in
     record {

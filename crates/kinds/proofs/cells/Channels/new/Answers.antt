@@ -5,5 +5,5 @@ use Rattle.kinds.proofs.cells.Channels.new.Goals as goal
 
 pub returns : goal.returns
 returns c =
-    let e = c.of-set.ensures in
+    let e = c.of_set.ensures in
     record { set = e; only = λ x h. channels_equal _ x (e ∙ sym h) }

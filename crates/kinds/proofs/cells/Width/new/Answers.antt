@@ -5,5 +5,5 @@ use Rattle.kinds.proofs.cells.Width.new.Goals as goal
 
 pub returns : goal.returns
 returns c =
-    let e = c.of-value.ensures in
+    let e = c.of_value.ensures in
     record { value = e; only = λ x h. width_equal _ x (e ∙ sym h) }
