@@ -17,10 +17,10 @@ returns g c =
     let n = 2 ^ g.O.Order.log c.args.order.now in
     let xs = c.args.table.now in
     let T = five xs c.args.u0.now c.args.u1.now c.args.v0.now c.args.v1.now in
-    let T' = five c.walk-steps.new.table c.walk-steps.new.u0 c.walk-steps.new.u1 c.walk-steps.new.v0 c.walk-steps.new.v1 in
+    let T' = five c.walk_steps.new.table c.walk_steps.new.u0 c.walk_steps.new.u1 c.walk_steps.new.v0 c.walk_steps.new.v1 in
     let n_is = c.sites-n.ensures.power in
-    let fit : all_fit n T ≡ true = subst (λ m. all_fit m T ≡ true) n_is (sym c.all-sized.ensures ∙ c.if-not-all-sized.false) in
-    let walked : T' ≡ walk rule member n at xs = c.walk-steps.ensures ∙ ap (λ m. walk rule member m at xs) n_is in
+    let fit : all_fit n T ≡ true = subst (λ m. all_fit m T ≡ true) n_is (sym c.all_sized.ensures ∙ c.if-not-all_sized.false) in
+    let walked : T' ≡ walk rule member n at xs = c.walk_steps.ensures ∙ ap (λ m. walk rule member m at xs) n_is in
     let every_order : (at : ℕ → Step) → Lawful n at → LeavesLoop rule member n xs (walk rule member n at xs) = λ at lawful.
     walk_leaves_loop rule member n at lawful xs (table_fits n T fit) in
     record {

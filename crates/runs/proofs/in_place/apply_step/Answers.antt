@@ -5,10 +5,10 @@ use Rattle.runs.proofs.in_place.apply_step.Goals as goal
 
 pub returns-then-has : goal.returns-then-has
 returns-then-has g c =
-    let x = c.new-value-x.result in
+    let x = c.new_value-x.result in
     let written = step_as_set (g.R.Rule.means c.args.rule.now) (g.S.UpdateSet.member c.args.set.now) c.args.n c.args.step c.args.table.now x (sym c.has.ensures ∙ c.if-has.true) in
-    let value = c.new-value-x.ensures x in
-    let at = c.place-of.ensures.place in
+    let value = c.new_value-x.ensures x in
+    let at = c.place_of.ensures.place in
     cc
 
 pub returns-else-has : goal.returns-else-has

@@ -20,9 +20,9 @@ returns g c =
     let small : leb q 6 ≡ true = le-leb q 6 c.args.order.now.small in
     let is_Loop = run_as_loop rule member n (loop_at n) (λ k i j _ hi hj. loop_occurs n i j k hi hj) xs in
     record {
-      answer = c.run-in-place.ensures.answer ∙ sym (ap (λ b. cond b (size_answer (fits n xs)) (Err ExponentTooLarge)) small);
+      answer = c.run_in_place.ensures.answer ∙ sym (ap (λ b. cond b (size_answer (fits n xs)) (Err ExponentTooLarge)) small);
       table =
-          c.run-in-place.ensures.table
+          c.run_in_place.ensures.table
           ∙ ap (λ ys. cond (fits n xs) ys xs) is_Loop
           ∙ sym (ap (λ b. cond b (cond (fits n xs) (looped rule member n xs) xs) xs) small);
     }

@@ -10,7 +10,7 @@ loop-t-init g c =
 pub loop-t-preserved : goal.loop-t-preserved
 loop-t-preserved g c =
     let more = run_until_more (g.R.Rule.means c.args.rule.now) (g.S.UpdateSet.member c.args.set.now) c.args.n (g.O.Order.at c.args.order.now) c.args.table.now c.loop-t.t in
-    let step = c.step-at.ensures.step in
-    let worked = c.apply-step.ensures in
+    let step = c.step_at.ensures.step in
+    let worked = c.apply_step.ensures in
     let before = c.loop-t.invariant in
     cc
