@@ -35,10 +35,10 @@ impl<'a, V: Kind> Draft<'a, V> {
     /// routes. The later cells of the ground stay. It refuses nothing: where `can_make` refuses, the
     /// board has no sites and every cell stays.
     pub fn make(ground: &'a mut [V], exponent: u32) -> Draft<'a, V>
-        ensures ground { result.ground.now ≡ make_ground ops exponent ground.old }
+        ensures ground { result.ground.now ≡ make_ground V.ops exponent ground.old }
         ensures exponent { result.exponent ≡ exponent }
         ensures lender { result.ground.ghost_name ≡ ground.entry.ghost_name }
-        ensures history { Leads ops exponent ground.old made result.ground.now }
+        ensures history { Leads V.ops exponent ground.old made result.ground.now }
     {
         lay_out(ground, exponent);
         Draft { ground, exponent }
@@ -49,10 +49,10 @@ impl<'a, V: Kind> Draft<'a, V> {
     /// site twice; a refusal leaves every cell.
     pub fn post(&mut self, from: usize, to: usize, value: V) -> Result<(), LinkFault>
         ensures answer { result ≡ post_answer self.old.exponent from to self.old.ground.now }
-        ensures ground { self.new.ground.now ≡ post_ground ops self.old.exponent draft from to value self.old.ground.now }
+        ensures ground { self.new.ground.now ≡ post_ground V.ops self.old.exponent draft from to value self.old.ground.now }
         ensures exponent { self.new.exponent ≡ self.old.exponent }
         ensures lender { self.new.ground.ghost_name ≡ self.old.ground.ghost_name }
-        ensures history { Longer ops self.old.exponent {s = draft} (λ h. posted h from to value) self.old.ground.now self.new.ground.now }
+        ensures history { Longer V.ops self.old.exponent {s = draft} (λ h. posted h from to value) self.old.ground.now self.new.ground.now }
     {
         let exponent = self.exponent;
         post_link(self.ground, exponent, from, to, value)
@@ -62,11 +62,11 @@ impl<'a, V: Kind> Draft<'a, V> {
     /// Refused with number 1 for a site that is not one of the board's, then with number 2 for the same
     /// site twice, then with number 3 for no link; a refusal leaves every cell.
     pub fn withdraw(&mut self, from: usize, to: usize) -> Result<(), LinkFault>
-        ensures answer { result ≡ withdraw_answer ops self.old.exponent from to self.old.ground.now }
-        ensures ground { self.new.ground.now ≡ withdraw_ground ops self.old.exponent from to self.old.ground.now }
+        ensures answer { result ≡ withdraw_answer V.ops self.old.exponent from to self.old.ground.now }
+        ensures ground { self.new.ground.now ≡ withdraw_ground V.ops self.old.exponent from to self.old.ground.now }
         ensures exponent { self.new.exponent ≡ self.old.exponent }
         ensures lender { self.new.ground.ghost_name ≡ self.old.ground.ghost_name }
-        ensures history { Longer ops self.old.exponent (λ h. withdrawn h from to) self.old.ground.now self.new.ground.now }
+        ensures history { Longer V.ops self.old.exponent (λ h. withdrawn h from to) self.old.ground.now self.new.ground.now }
     {
         let exponent = self.exponent;
         withdraw_link(self.ground, exponent, from, to)
@@ -76,11 +76,11 @@ impl<'a, V: Kind> Draft<'a, V> {
     /// order whose pivot is a relay are run there. An order of another exponent is replaced by the
     /// loop order. It refuses nothing; a board without sites keeps every cell.
     pub fn settle<O: Order>(self, relays: u64, order: &O) -> Settled<'a, V>
-        ensures ground { result.ground.now ≡ settle_ground ops self.entry.exponent relays (O.Order.log order.now) (O.Order.at order.now) self.entry.ground.now }
-        ensures exponent { result.exponent ≡ self.entry.exponent }
+        ensures ground { result.ground.now ≡ settle_ground V.ops self.exponent relays (O.Order.log order.now) (O.Order.at order.now) self.ground.now }
+        ensures exponent { result.exponent ≡ self.exponent }
         ensures relays { result.relays ≡ relays }
-        ensures lender { result.ground.ghost_name ≡ self.entry.ground.ghost_name }
-        ensures history { Settles ops self.entry.exponent relays (O.Order.log order.now) (O.Order.at order.now) self.entry.ground.now result.ground.now }
+        ensures lender { result.ground.ghost_name ≡ self.ground.ghost_name }
+        ensures history { Settles V.ops self.exponent relays (O.Order.log order.now) (O.Order.at order.now) self.ground.now result.ground.now }
     {
         let exponent = self.exponent;
         let ground = self.end();
@@ -95,23 +95,23 @@ impl<'a, V: Kind> Draft<'a, V> {
     /// How many links the board has: pairs of different sites whose link is not none. It refuses
     /// nothing.
     pub fn count(&self) -> usize
-        ensures answer { result ≡ count_links ops self.now.exponent self.now.ground.now }
-        ensures told { CountsTold ops self.now.exponent draft self.now.ground.now result }
+        ensures answer { result ≡ count_links V.ops self.now.exponent self.now.ground.now }
+        ensures told { CountsTold V.ops self.now.exponent draft self.now.ground.now result }
     {
         self.links()
     }
 
     // The number of links; `count` also says that it is what the history tells.
     fn links(&self) -> usize
-        ensures { result ≡ count_links ops self.now.exponent self.now.ground.now }
+        ensures { result ≡ count_links V.ops self.now.exponent self.now.ground.now }
     {
         count_links(self.ground, self.exponent)
     }
 
     /// Ends the board and gives its ground back, with every cell as it stands. It refuses nothing.
     pub fn end(self) -> &'a mut [V]
-        ensures ground { result.now ≡ self.entry.ground.now }
-        ensures lender { result.ghost_name ≡ self.entry.ground.ghost_name }
+        ensures ground { result.now ≡ self.ground.now }
+        ensures lender { result.ghost_name ≡ self.ground.ghost_name }
     {
         let Draft {
             ground,

@@ -26,11 +26,11 @@ impl<'a, V: Kind> Settled<'a, V> {
     /// site twice; a refusal leaves every cell.
     pub fn post(&mut self, from: usize, to: usize, value: V) -> Result<(), LinkFault>
         ensures answer { result ≡ post_answer self.old.exponent from to self.old.ground.now }
-        ensures ground { self.new.ground.now ≡ post_ground ops self.old.exponent (settled self.old.relays) from to value self.old.ground.now }
+        ensures ground { self.new.ground.now ≡ post_ground V.ops self.old.exponent (settled self.old.relays) from to value self.old.ground.now }
         ensures exponent { self.new.exponent ≡ self.old.exponent }
         ensures relays { self.new.relays ≡ self.old.relays }
         ensures lender { self.new.ground.ghost_name ≡ self.old.ground.ghost_name }
-        ensures history { Longer ops self.old.exponent {s = settled self.old.relays} (λ h. posted h from to value) self.old.ground.now self.new.ground.now }
+        ensures history { Longer V.ops self.old.exponent {s = settled self.old.relays} (λ h. posted h from to value) self.old.ground.now self.new.ground.now }
     {
         let exponent = self.exponent;
         let relays = self.relays;
@@ -41,15 +41,15 @@ impl<'a, V: Kind> Settled<'a, V> {
     /// whose inner sites are relays, whatever calls led to this board.
     /// Refused with number 1 for a site that is not one of the board's.
     pub fn ask(&self, from: usize, to: usize) -> Result<V, LinkFault>
-        ensures answer { result ≡ ask_answer ops self.now.exponent from to self.now.ground.now }
-        ensures best { ShowsBest ops self.now.exponent self.now.relays self.now.ground.now from to result }
+        ensures answer { result ≡ ask_answer V.ops self.now.exponent from to self.now.ground.now }
+        ensures best { ShowsBest V.ops self.now.exponent self.now.relays self.now.ground.now from to result }
     {
         self.shown(from, to)
     }
 
     // The route that an ask shows; `ask` also says that it is the best distance.
     fn shown(&self, from: usize, to: usize) -> Result<V, LinkFault>
-        ensures { result ≡ ask_answer ops self.now.exponent from to self.now.ground.now }
+        ensures { result ≡ ask_answer V.ops self.now.exponent from to self.now.ground.now }
     {
         ask_route(self.ground, self.exponent, from, to)
     }
@@ -57,25 +57,25 @@ impl<'a, V: Kind> Settled<'a, V> {
     /// How many links the board has: pairs of different sites whose link is not none. It refuses
     /// nothing.
     pub fn count(&self) -> usize
-        ensures answer { result ≡ count_links ops self.now.exponent self.now.ground.now }
-        ensures told { CountsTold ops self.now.exponent (settled self.now.relays) self.now.ground.now result }
+        ensures answer { result ≡ count_links V.ops self.now.exponent self.now.ground.now }
+        ensures told { CountsTold V.ops self.now.exponent (settled self.now.relays) self.now.ground.now result }
     {
         self.links()
     }
 
     // The number of links; `count` also says that it is what the history tells.
     fn links(&self) -> usize
-        ensures { result ≡ count_links ops self.now.exponent self.now.ground.now }
+        ensures { result ≡ count_links V.ops self.now.exponent self.now.ground.now }
     {
         count_links(self.ground, self.exponent)
     }
 
     /// Makes the board a draft again, with every cell as it stands. It refuses nothing.
     pub fn reopen(self) -> Draft<'a, V>
-        ensures ground { result.ground.now ≡ self.entry.ground.now }
-        ensures exponent { result.exponent ≡ self.entry.exponent }
-        ensures lender { result.ground.ghost_name ≡ self.entry.ground.ghost_name }
-        ensures history { Longer ops self.entry.exponent {s = settled self.entry.relays} reopened self.entry.ground.now result.ground.now }
+        ensures ground { result.ground.now ≡ self.ground.now }
+        ensures exponent { result.exponent ≡ self.exponent }
+        ensures lender { result.ground.ghost_name ≡ self.ground.ghost_name }
+        ensures history { Longer V.ops self.exponent {s = settled self.relays} reopened self.ground.now result.ground.now }
     {
         let Settled {
             ground,
@@ -87,8 +87,8 @@ impl<'a, V: Kind> Settled<'a, V> {
 
     /// Ends the board and gives its ground back, with every cell as it stands. It refuses nothing.
     pub fn end(self) -> &'a mut [V]
-        ensures ground { result.now ≡ self.entry.ground.now }
-        ensures lender { result.ghost_name ≡ self.entry.ground.ghost_name }
+        ensures ground { result.now ≡ self.ground.now }
+        ensures lender { result.ghost_name ≡ self.ground.ghost_name }
     {
         self.reopen().end()
     }

@@ -9,7 +9,7 @@ use kinds::kind::Kind;
 /// Lays the links and the routes of a new board: here from each site to itself, none elsewhere. The
 /// later cells stay, and all cells stay where there are no sites.
 pub fn lay_out<V: Kind>(ground: &mut [V], exponent: u32)
-    ensures { ground.new ≡ make_ground ops exponent ground.old }
+    ensures { ground.new ≡ make_ground V.ops exponent ground.old }
 {
     let n = sites_on(exponent, ground.len());
     let cells = board_cells(n);
@@ -30,7 +30,7 @@ fn board_cells(n: usize) -> usize
 fn fresh_cell<V: Kind>(n: usize, p: usize) -> V
     requires some { 0 < n }
     requires small { n ≤ 64 }
-    ensures { result ≡ fresh_cell ops n p }
+    ensures { result ≡ fresh_cell V.ops n p }
 {
     if p < n * n {
         diagonal_cell(n, p)
@@ -42,7 +42,7 @@ fn fresh_cell<V: Kind>(n: usize, p: usize) -> V
 // The cell at a place of one table.
 fn diagonal_cell<V: Kind>(n: usize, p: usize) -> V
     requires { 0 < n }
-    ensures { result ≡ diagonal ops n p }
+    ensures { result ≡ diagonal V.ops n p }
 {
     if p / n == p % n { V::here() } else { V::none() }
 }

@@ -22,7 +22,7 @@ pub(crate) fn link_place(n: usize, i: usize, j: usize) -> usize
 // The cell at a place.
 pub(crate) fn cell_at<V: Kind>(ground: &[V], at: usize) -> V
     requires { at < length ground.now }
-    ensures { result ≡ slice_index_or ground.now at ops.none }
+    ensures { result ≡ slice_index_or ground.now at V.ops.none }
 {
     ground[at]
 }
@@ -31,7 +31,7 @@ pub(crate) fn cell_at<V: Kind>(ground: &[V], at: usize) -> V
 fn link_at<V: Kind>(ground: &[V], n: usize, i: usize, j: usize) -> V
     requires room { Room n (length ground.now) }
     requires pair { Pair n i j }
-    ensures { result ≡ link_at ops n ground.now i j }
+    ensures { result ≡ link_at V.ops n ground.now i j }
 {
     cell_at(ground, link_place(n, i, j))
 }
@@ -49,7 +49,7 @@ fn set_link<V: Kind>(ground: &mut [V], n: usize, i: usize, j: usize, link: V)
 pub(crate) fn join_link<V: Kind>(ground: &mut [V], n: usize, from: usize, to: usize, value: V)
     requires room { Room n (length ground.old) }
     requires pair { Pair n from to }
-    ensures { ground.new ≡ slice_set ground.old (place n from to) (ops.join (link_at ops n ground.old from to) value) }
+    ensures { ground.new ≡ slice_set ground.old (place n from to) (V.ops.join (link_at V.ops n ground.old from to) value) }
 {
     let link = link_at(ground, n, from, to);
     set_link(ground, n, from, to, link.join(value));
@@ -66,7 +66,7 @@ pub fn post_link<V: Kind>(
     value: V,
 ) -> Result<(), LinkFault>
     ensures answer { result ≡ post_answer exponent from to ground.old }
-    ensures ground { ground.new ≡ post_ground ops exponent draft from to value ground.old }
+    ensures ground { ground.new ≡ post_ground V.ops exponent draft from to value ground.old }
 {
     let n = sites_on(exponent, ground.len());
     check_pair(n, from, to)?;
@@ -76,7 +76,7 @@ pub fn post_link<V: Kind>(
 
 // Whether there is a link.
 fn check_link<V: Kind>(link: V) -> Result<(), LinkFault>
-    ensures { result ≡ link_answer ops link }
+    ensures { result ≡ link_answer V.ops link }
 {
     if link.equals(V::none()) {
         Err(LinkFault::NoLink)
@@ -89,7 +89,7 @@ fn check_link<V: Kind>(link: V) -> Result<(), LinkFault>
 fn clear_link<V: Kind>(ground: &mut [V], n: usize, from: usize, to: usize)
     requires room { Room n (length ground.old) }
     requires pair { Pair n from to }
-    ensures { ground.new ≡ slice_set ground.old (place n from to) ops.none }
+    ensures { ground.new ≡ slice_set ground.old (place n from to) V.ops.none }
 {
     set_link(ground, n, from, to, V::none());
 }
@@ -103,8 +103,8 @@ pub fn withdraw_link<V: Kind>(
     from: usize,
     to: usize,
 ) -> Result<(), LinkFault>
-    ensures answer { result ≡ withdraw_answer ops exponent from to ground.old }
-    ensures ground { ground.new ≡ withdraw_ground ops exponent from to ground.old }
+    ensures answer { result ≡ withdraw_answer V.ops exponent from to ground.old }
+    ensures ground { ground.new ≡ withdraw_ground V.ops exponent from to ground.old }
 {
     let n = sites_on(exponent, ground.len());
     check_pair(n, from, to)?;
@@ -117,7 +117,7 @@ pub fn withdraw_link<V: Kind>(
 fn is_link<V: Kind>(ground: &[V], n: usize, p: usize) -> bool
     requires room { Room n (length ground.now) }
     requires inside { p < n * n }
-    ensures { result ≡ (not (p / n == p % n) && not (ops.same (slice_index_or ground.now p ops.none) ops.none)) }
+    ensures { result ≡ (not (p / n == p % n) && not (V.ops.same (slice_index_or ground.now p V.ops.none) V.ops.none)) }
 {
     let link = cell_at(ground, p);
     (p / n != p % n) & !link.equals(V::none())
@@ -125,7 +125,7 @@ fn is_link<V: Kind>(ground: &[V], n: usize, p: usize) -> bool
 
 /// The number of ordered pairs of different sites whose link is not none.
 pub fn count_links<V: Kind>(ground: &[V], exponent: u32) -> usize
-    ensures { result ≡ count_links ops exponent ground.now }
+    ensures { result ≡ count_links V.ops exponent ground.now }
 {
     let n = sites_on(exponent, ground.len());
     let mut count = 0;

@@ -24,7 +24,7 @@ fn route_place(n: usize, i: usize, j: usize) -> usize
 fn route_at<V: Kind>(ground: &[V], n: usize, i: usize, j: usize) -> V
     requires room { Room n (length ground.now) }
     requires pair { Pair n i j }
-    ensures { result ≡ route_at ops n ground.now i j }
+    ensures { result ≡ route_at V.ops n ground.now i j }
 {
     cell_at(ground, route_place(n, i, j))
 }
@@ -37,7 +37,7 @@ pub fn ask_route<V: Kind>(
     from: usize,
     to: usize,
 ) -> Result<V, LinkFault>
-    ensures { result ≡ ask_answer ops exponent from to ground.now }
+    ensures { result ≡ ask_answer V.ops exponent from to ground.now }
 {
     let n = sites_on(exponent, ground.len());
     if (from < n) & (to < n) {
@@ -61,7 +61,7 @@ pub fn post_and_join<V: Kind>(
     value: V,
 ) -> Result<(), LinkFault>
     ensures answer { result ≡ post_answer exponent from to ground.old }
-    ensures ground { ground.new ≡ post_ground ops exponent (settled relays) from to value ground.old }
+    ensures ground { ground.new ≡ post_ground V.ops exponent (settled relays) from to value ground.old }
 {
     let n = sites_on(exponent, ground.len());
     check_pair(n, from, to)?;
@@ -80,7 +80,7 @@ fn join_link_and_routes<V: Kind>(
 )
     requires room { Room n (length ground.old) }
     requires pair { Pair n from to }
-    ensures { ground.new ≡ join_routes ops n relays from to value (slice_set ground.old (place n from to) (ops.join (link_at ops n ground.old from to) value)) }
+    ensures { ground.new ≡ join_routes V.ops n relays from to value (slice_set ground.old (place n from to) (V.ops.join (link_at V.ops n ground.old from to) value)) }
 {
     join_link(ground, n, from, to, value);
     join_routes(ground, n, relays, from, to, value);
@@ -91,7 +91,7 @@ fn join_link_and_routes<V: Kind>(
 fn join_routes<V: Kind>(ground: &mut [V], n: usize, relays: u64, from: usize, to: usize, value: V)
     requires room { Room n (length ground.old) }
     requires pair { Pair n from to }
-    ensures { ground.new ≡ join_routes ops n relays from to value ground.old }
+    ensures { ground.new ≡ join_routes V.ops n relays from to value ground.old }
 {
     for p in 0..n * n {
         join_route(ground, n, relays, from, to, value, p / n, p % n);
@@ -112,7 +112,7 @@ fn join_route<V: Kind>(
     requires room { Room n (length ground.old) }
     requires pair { Pair n from to }
     requires route { Pair n a b }
-    ensures { ground.new ≡ join_route ops n relays from to value a b ground.old }
+    ensures { ground.new ≡ join_route V.ops n relays from to value a b ground.old }
 {
     if meets(relays, from, a) & meets(relays, to, b) {
         let route = route_at(ground, n, a, b);
@@ -132,7 +132,7 @@ fn meets(relays: u64, site: usize, a: usize) -> bool
 
 // A route joined with a first part, a value and a last part.
 fn joined<V: Kind>(route: V, first: V, value: V, last: V) -> V
-    ensures { result ≡ ops.join route (ops.chain (ops.chain first value) last) }
+    ensures { result ≡ V.ops.join route (V.ops.chain (V.ops.chain first value) last) }
 {
     route.join(first.chain(value).chain(last))
 }

@@ -11,11 +11,11 @@ returns g c =
     let from = c.args.from in
     let to = c.args.to in
     let xs = c.args.ground.now in
-    let n = c.sites-on-n.result in
-    let n_is = c.sites-on-n.ensures.sites in
-    let taken = c.in-ok-check-pair.ensures.answer in
-    let there = c.in-ok-check-link.ensures ∙ ap (link_answer o) c.link-at.ensures in
+    let n = c.sites_on-n.result in
+    let n_is = c.sites_on-n.ensures.sites in
+    let taken = c.in_ok-check_pair.ensures.answer in
+    let there = c.in_ok-check_link.ensures ∙ ap (link_answer o) c.link_at.ensures in
     record {
       answer = withdraw_taken o q n from to xs n_is taken there;
-      ground = c.clear-link.ensures ∙ withdraw_leaves o q n from to xs n_is taken there;
+      ground = c.clear_link.ensures ∙ withdraw_leaves o q n from to xs n_is taken there;
     }

@@ -8,8 +8,8 @@ use Rattle.ground.proofs.routes.join_routes.Goals as goal
 pub loop-p-init : goal.loop-p-init
 loop-p-init g c = sym (joined_none g.V.Kind.ops c.args.n c.args.relays c.args.from c.args.to c.args.value c.args.ground.now)
 
-pub join-route-requires : goal.join-route-requires
-join-route-requires g c =
+pub join_route-requires : goal.join_route-requires
+join_route-requires g c =
     let at = cell_of_place c.args.n c.loop-p.p c.loop-p-test.true in
     record {
       room = record { small = c.requires.room.small; room = omega (arith, c.requires.room.room, c.loop-p.auto.ground) };
@@ -22,7 +22,7 @@ loop-p-preserved g c =
     let o = g.V.Kind.ops in
     let n = c.args.n in
     let p = c.loop-p.p in
-    c.join-route.ensures
+    c.join_route.ensures
     ∙ ap (join_route o n c.args.relays c.args.from c.args.to c.args.value _ _) c.loop-p.invariant
     ∙ sym (joined_more o n c.args.relays c.args.from c.args.to c.args.value c.args.ground.now g.met.V.Kind.lawful c.requires.room.room c.requires.pair.first c.requires.pair.second p c.loop-p-test.true)
 

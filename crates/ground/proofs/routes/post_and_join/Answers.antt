@@ -10,10 +10,10 @@ returns g c =
     let from = c.args.from in
     let to = c.args.to in
     let xs = c.args.ground.now in
-    let n = c.sites-on-n.result in
-    let n_is = c.sites-on-n.ensures.sites in
-    let taken = c.in-ok-check-pair.ensures.answer in
+    let n = c.sites_on-n.result in
+    let n_is = c.sites_on-n.ensures.sites in
+    let taken = c.in_ok-check_pair.ensures.answer in
     record {
       answer = post_taken o q n from to xs n_is taken;
-      ground = c.join-link-and-routes.ensures ∙ settled_leaves o q n from to xs n_is taken c.args.relays c.args.value;
+      ground = c.join_link_and_routes.ensures ∙ settled_leaves o q n from to xs n_is taken c.args.relays c.args.value;
     }

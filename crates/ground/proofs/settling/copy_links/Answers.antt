@@ -11,7 +11,7 @@ loop-p-preserved g c =
     let m = c.args.n * c.args.n in
     let p = c.loop-p.p in
     let d = g.V.Kind.ops.none in
-    c.copy-link.ensures
+    c.copy_link.ensures
     ∙ ap (λ ys. set ys (m + p) (get_or ys p d)) c.loop-p.invariant
     ∙ copied_more m c.args.ground.now c.requires.room p d c.loop-p-test.true
 

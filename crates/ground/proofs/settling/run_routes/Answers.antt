@@ -6,6 +6,6 @@ use Rattle.ground.proofs.settling.run_routes.Goals as goal
 
 pub returns-else-exponent : goal.returns-else-exponent
 returns-else-exponent g c =
-    c.run-by-loop.ensures
+    c.run_by_loop.ensures
     ∙ loop_as_order (path_rule g.V.Kind.ops) (relay_steps c.args.relays) c.args.exponent (g.O.Order.log c.args.order.now) (g.O.Order.at c.args.order.now) c.args.table.now
     c.requires.small c.requires.sized (λ e. c.if-exponent.false (c.exponent.ensures ∙ e))

@@ -10,9 +10,9 @@ returns-in-Ok c =
     let q = c.args.exponent in
     let cells = c.args.cells in
     let s = c.in-Ok.ensures.sites in
-    let same = sym c.sites-that-fit.ensures in
+    let same = sym c.sites_that_fit.ensures in
     record {
-      sites = c.sites-that-fit.ensures ∙ counted q cells c.in-Ok.n s;
+      sites = c.sites_that_fit.ensures ∙ counted q cells c.in-Ok.n s;
       room = subst (λ m. Room m cells) same (roomy q cells c.in-Ok.n s);
       power = subst (λ m. 0 < m → Sites q m) same (powered q cells c.in-Ok.n s);
     }
