@@ -76,11 +76,11 @@ impl<'a, V: Kind> Draft<'a, V> {
     /// order whose pivot is a relay are run there. An order of another exponent is replaced by the
     /// loop order. It refuses nothing; a board without sites keeps every cell.
     pub fn settle<O: Order>(self, relays: u64, order: &O) -> Settled<'a, V>
-        ensures ground { result.ground.now ≡ settle_ground V.ops self.exponent relays (O.Order.log order.now) (O.Order.at order.now) self.ground.now }
-        ensures exponent { result.exponent ≡ self.exponent }
+        ensures ground { result.ground.now ≡ settle_ground V.ops self.entry.exponent relays (O.Order.log order.now) (O.Order.at order.now) self.entry.ground.now }
+        ensures exponent { result.exponent ≡ self.entry.exponent }
         ensures relays { result.relays ≡ relays }
-        ensures lender { result.ground.ghost_name ≡ self.ground.ghost_name }
-        ensures history { Settles V.ops self.exponent relays (O.Order.log order.now) (O.Order.at order.now) self.ground.now result.ground.now }
+        ensures lender { result.ground.ghost_name ≡ self.entry.ground.ghost_name }
+        ensures history { Settles V.ops self.entry.exponent relays (O.Order.log order.now) (O.Order.at order.now) self.entry.ground.now result.ground.now }
     {
         let exponent = self.exponent;
         let ground = self.end();
@@ -110,8 +110,8 @@ impl<'a, V: Kind> Draft<'a, V> {
 
     /// Ends the board and gives its ground back, with every cell as it stands. It refuses nothing.
     pub fn end(self) -> &'a mut [V]
-        ensures ground { result.now ≡ self.ground.now }
-        ensures lender { result.ghost_name ≡ self.ground.ghost_name }
+        ensures ground { result.now ≡ self.entry.ground.now }
+        ensures lender { result.ghost_name ≡ self.entry.ground.ghost_name }
     {
         let Draft {
             ground,

@@ -72,10 +72,10 @@ impl<'a, V: Kind> Settled<'a, V> {
 
     /// Makes the board a draft again, with every cell as it stands. It refuses nothing.
     pub fn reopen(self) -> Draft<'a, V>
-        ensures ground { result.ground.now ≡ self.ground.now }
-        ensures exponent { result.exponent ≡ self.exponent }
-        ensures lender { result.ground.ghost_name ≡ self.ground.ghost_name }
-        ensures history { Longer V.ops self.exponent {s = settled self.relays} reopened self.ground.now result.ground.now }
+        ensures ground { result.ground.now ≡ self.entry.ground.now }
+        ensures exponent { result.exponent ≡ self.entry.exponent }
+        ensures lender { result.ground.ghost_name ≡ self.entry.ground.ghost_name }
+        ensures history { Longer V.ops self.entry.exponent {s = settled self.entry.relays} reopened self.entry.ground.now result.ground.now }
     {
         let Settled {
             ground,
@@ -87,8 +87,8 @@ impl<'a, V: Kind> Settled<'a, V> {
 
     /// Ends the board and gives its ground back, with every cell as it stands. It refuses nothing.
     pub fn end(self) -> &'a mut [V]
-        ensures ground { result.now ≡ self.ground.now }
-        ensures lender { result.ghost_name ≡ self.ground.ghost_name }
+        ensures ground { result.now ≡ self.entry.ground.now }
+        ensures lender { result.ghost_name ≡ self.entry.ground.ghost_name }
     {
         self.reopen().end()
     }

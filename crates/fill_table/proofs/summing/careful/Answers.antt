@@ -16,6 +16,6 @@ answered T = record { table = T.table; u0 = T.u0; u1 = T.u1; v0 = T.v0; v1 = T.v
 pub returns : goal.returns
 unfolding zeros answered
 returns c =
-    let one = (made_exponent 1 c.in-ok-order.order.exponent c.in-ok-order.ensures).1 in
+    let one = (made_exponent 1 c.in_ok-order.order.exponent c.in_ok-order.ensures).1 in
     ap (λ T. Ok (answered T))
-    (c.careful-run.ensures.walk ∙ ap (λ e. cond (all_fit (2 ^ e) zeros) (walk sum all (2 ^ e) (recursive_at e) start) zeros) one ∙ walk_leaves)
+    (c.careful_run.ensures.walk ∙ ap (λ e. cond (all_fit (2 ^ e) zeros) (walk sum all (2 ^ e) (recursive_at e) start) zeros) one ∙ walk_leaves)

@@ -8,5 +8,5 @@ use Rattle.fill_table.proofs.summing.in_place.Goals as goal
 
 pub returns : goal.returns
 returns c =
-    let one = (made_exponent 1 c.in-ok-order.order.exponent c.in-ok-order.ensures).1 in
-    ap Ok (c.run-in-place.ensures.table ∙ ap (λ e. cond (fits (2 ^ e) start) (run_in_place sum all (2 ^ e) (recursive_at e) start) start) one ∙ run_leaves)
+    let one = (made_exponent 1 c.in_ok-order.order.exponent c.in_ok-order.ensures).1 in
+    ap Ok (c.run_in_place.ensures.table ∙ ap (λ e. cond (fits (2 ^ e) start) (run_in_place sum all (2 ^ e) (recursive_at e) start) start) one ∙ run_leaves)
