@@ -3,6 +3,8 @@
 // keeps them right at once. Every call says what it answers, every cell that it leaves, and that the
 // board it leaves is the one that the history of calls, longer by this call, leads to; the law of
 // best distances stands in the contract of `Settled::ask`. Stands on ground and the theory in paths.
+#![tactic(auto)]
+
 pub mod draft;
 pub mod settled;
 pub mod whole_way;

@@ -1,6 +1,6 @@
 -- The elimination loop and the run in place, as what they leave in a table. Assumes nothing.
 -- `rule` is the update of a cell x by u, v and w; `member` is the set of the steps that are worked.
-use Rattle.std.specs.Prelude.{ℕ, Bool, cond, List, get_or, slice_index_or}
+use Rattle.std.specs.Prelude.{ℕ, Bool, cond, List, slice_index_or}
 use Rattle.orders.specs.declared.step.Step.{Step}
 use Rattle.orders.specs.Order.{step_count}
 use Rattle.orders.specs.Lawful.{step_of}

@@ -1,6 +1,8 @@
 // What a call answers where it refuses: one enum for each party that can be at fault.
 // A case is what a call answers; its number is given by a definition in specs/, and `number` is
 // proved to answer by it. Here so far: who posts links, and who lays out memory.
+#![tactic(auto)]
+
 ghost use Rattle.std.specs.Prelude.{◌≡◌};
 ghost use Rattle.faults.specs.Numbers.{layout_number, link_number};
 

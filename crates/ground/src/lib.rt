@@ -3,6 +3,8 @@
 // Each call answers, and leaves every cell, by the definitions of the crate paths, and refuses
 // rather than ask anything of its caller. The crate board keeps the state of a board above these.
 // Stands on faults, kinds, orders, runs and paths. Read sites, fresh, links, routes, settling.
+#![tactic(auto)]
+
 pub mod fresh;
 pub mod links;
 pub mod routes;

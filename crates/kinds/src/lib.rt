@@ -4,6 +4,8 @@
 // kinds side by side; `cells` has their types. `covers` tells whether one value makes another
 // needless: an order in every kind, which join and chain respect. `widest` is a choice that looks
 // like a kind and is none. The crate stands on `std` alone.
+#![tactic(auto)]
+
 pub mod beside;
 pub mod cells;
 pub mod channels;

@@ -3,6 +3,8 @@
 // once, and shows that its list is lawful. Given are the loop order, the recursive order, and the
 // recursive order written out as a list of codes. proofs/Nesting has what nested orders rest on.
 // Stands on the crate of faults. Read size, step, order, loop_order, recursive_order, codes.
+#![tactic(auto)]
+
 pub mod codes;
 pub mod loop_order;
 pub mod order;

@@ -2,6 +2,7 @@
 // set of steps that are worked, the order of the steps and the cell type.
 // The run in place leaves what the order's steps leave one after another; the careful run leaves
 // the loop's table by every lawful order. Stands on kinds, orders and the theory of elimination.
+#![tactic(auto)]
 
 // What a run is given.
 pub mod rule;
