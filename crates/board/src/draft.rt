@@ -76,11 +76,11 @@ impl<'a, V: Kind> Draft<'a, V> {
     /// order whose pivot is a relay are run there. An order of another exponent is replaced by the
     /// loop order. It refuses nothing; a board without sites keeps every cell.
     pub fn settle<O: Order>(self, relays: u64, order: &O) -> Settled<'a, V>
-        ensures ground { result.ground.now ≡ settle_ground V.ops self.entry.exponent relays (O.Order.log order.now) (O.Order.at order.now) self.entry.ground.now }
+        ensures ground { result.ground.now ≡ settle_ground V.ops self.entry.exponent relays (O.log order.now) (O.at order.now) self.entry.ground.now }
         ensures exponent { result.exponent ≡ self.entry.exponent }
         ensures relays { result.relays ≡ relays }
         ensures lender { result.ground.ghost_name ≡ self.entry.ground.ghost_name }
-        ensures history { Settles V.ops self.entry.exponent relays (O.Order.log order.now) (O.Order.at order.now) self.entry.ground.now result.ground.now }
+        ensures history { Settles V.ops self.entry.exponent relays (O.log order.now) (O.at order.now) self.entry.ground.now result.ground.now }
     {
         let exponent = self.exponent;
         let ground = self.end();

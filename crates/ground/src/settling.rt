@@ -17,7 +17,7 @@ use runs::relays::Relays;
 /// place with the path rule; an order of another exponent is replaced by the loop order. A ground
 /// without sites stays.
 pub fn settle_routes<V: Kind, O: Order>(ground: &mut [V], exponent: u32, relays: u64, order: &O)
-    ensures { ground.new ≡ settle_ground V.ops exponent relays (O.Order.log order.now) (O.Order.at order.now) ground.old }
+    ensures { ground.new ≡ settle_ground V.ops exponent relays (O.log order.now) (O.at order.now) ground.old }
 {
     let n = sites_on(exponent, ground.len());
     if n > 0 {
@@ -50,7 +50,7 @@ fn copy_link<V: Kind>(ground: &mut [V], n: usize, p: usize)
 fn run_routes<V: Kind, O: Order>(exponent: u32, relays: u64, order: &O, table: &mut [V])
     requires small { exponent ≤ 6 }
     requires sized { length table.old ≡ 2 ^ exponent * 2 ^ exponent }
-    ensures { table.new ≡ run_in_place (path_rule V.ops) (relay_steps relays) (2 ^ exponent) (order_taken exponent (O.Order.log order.now) (O.Order.at order.now)) table.old }
+    ensures { table.new ≡ run_in_place (path_rule V.ops) (relay_steps relays) (2 ^ exponent) (order_taken exponent (O.log order.now) (O.at order.now)) table.old }
 {
     if order.exponent() == exponent {
         run_by_order(relays, order, table);
@@ -61,7 +61,7 @@ fn run_routes<V: Kind, O: Order>(exponent: u32, relays: u64, order: &O, table: &
 
 // Runs the steps of an order; a table of another size stays.
 fn run_by_order<V: Kind, O: Order>(relays: u64, order: &O, table: &mut [V])
-    ensures { table.new ≡ in_place_table (path_rule V.ops) (relay_steps relays) (O.Order.log order.now) (O.Order.at order.now) table.old }
+    ensures { table.new ≡ in_place_table (path_rule V.ops) (relay_steps relays) (O.log order.now) (O.at order.now) table.old }
 {
     let _ = run_in_place(&Path::<V>::new(), &Relays { word: relays }, order, table);
 }

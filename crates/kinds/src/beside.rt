@@ -6,9 +6,9 @@ use crate::cells::Beside;
 use crate::kind::Kind;
 
 impl<L: Kind, R: Kind> Kind for Beside<L, R> {
-    ghost ops = { pairs L.Kind.ops R.Kind.ops };
+    ghost ops = { pairs L.ops R.ops };
 
-    ghost lawful = { pairs_lawful L.Kind.lawful R.Kind.lawful };
+    ghost lawful = { pairs_lawful L.lawful R.lawful };
 
     fn join(self, other: Beside<L, R>) -> Beside<L, R> {
         Beside {

@@ -3,7 +3,6 @@ ghost use Rattle.std.specs.Result.{result_map_both};
 ghost use Rattle.orders.specs.Size.{exponent_answer};
 ghost use Rattle.orders.specs.LoopOrder.{loop_at};
 ghost use Rattle.orders.specs.LoopLaws.{loop_lawful};
-ghost use Rattle.std.proofs.Common.{rules, arith};
 
 use crate::order::Order;
 use crate::size::two_to;
@@ -36,7 +35,7 @@ impl Order for LoopOrder {
 
     ghost at = { λ o. loop_at (2 ^ o.exponent) };
 
-    ghost small = { first_of (Prim.search rules, Prim.grind (arith, Self.row.coded.inj)) };
+    ghost small = { λ o. o.small };
 
     ghost lawful = { λ o. loop_lawful (2 ^ o.exponent) };
 

@@ -4,7 +4,6 @@ ghost use Rattle.orders.specs.Size.{exponent_answer};
 ghost use Rattle.orders.specs.Lawful.{Within};
 ghost use Rattle.orders.specs.RecursiveOrder.{digit_step, placed, recursive_at};
 ghost use Rattle.orders.specs.RecursiveLaws.{recursive_lawful};
-ghost use Rattle.std.proofs.Common.{rules, arith};
 
 use crate::order::Order;
 use crate::size::two_to;
@@ -38,7 +37,7 @@ impl Order for RecursiveOrder {
 
     ghost at = { λ o. recursive_at o.exponent };
 
-    ghost small = { first_of (Prim.search rules, Prim.grind (arith, Self.row.coded.inj)) };
+    ghost small = { λ o. o.small };
 
     ghost lawful = { λ o. recursive_lawful o.exponent };
 

@@ -1,5 +1,5 @@
 // The careful run.
-ghost use Rattle.std.specs.Prelude.{◌≡◌, ◌*◌, ◌^◌, ◌<◌, ◌≤◌, ◌&&◌, length, set, if◌then◌else◌, ◌==◌, nat_le, nat_lt, slice_index_or};
+ghost use Rattle.std.specs.Prelude.{◌≡◌, ◌*◌, ◌^◌, ◌<◌, ◌≤◌, ◌&&◌, length, if◌then◌else◌, ◌==◌, nat_le, nat_lt, slice_index_or, slice_set};
 ghost use Rattle.orders.specs.Lawful.{Within};
 ghost use Rattle.elimination.specs.Table.{place};
 ghost use Rattle.elimination.specs.Walk.{five, careful_value, careful_step, walk};
@@ -28,10 +28,10 @@ pub fn careful_run<R: Rule, S: UpdateSet, O: Order>(
     v0: &mut [R::Cell],
     v1: &mut [R::Cell],
 ) -> Result<(), LayoutFault>
-    ensures answer { result ≡ careful_answer (O.Order.log order.now) (five table.old u0.old u1.old v0.old v1.old) }
-    ensures walk { five table.new u0.new u1.new v0.new v1.new ≡ careful_tables (R.Rule.means rule.now) (S.UpdateSet.member set.now) (O.Order.log order.now) (O.Order.at order.now) (five table.old u0.old u1.old v0.old v1.old) }
-    ensures every_order { WalkIsLoop (R.Rule.means rule.now) (S.UpdateSet.member set.now) (O.Order.log order.now) (five table.old u0.old u1.old v0.old v1.old) }
-    ensures looped { CarefulIsLoop (R.Rule.means rule.now) (S.UpdateSet.member set.now) (O.Order.log order.now) (five table.old u0.old u1.old v0.old v1.old) (five table.new u0.new u1.new v0.new v1.new) }
+    ensures answer { result ≡ careful_answer (O.log order.now) (five table.old u0.old u1.old v0.old v1.old) }
+    ensures walk { five table.new u0.new u1.new v0.new v1.new ≡ careful_tables (R.means rule.now) (S.member set.now) (O.log order.now) (O.at order.now) (five table.old u0.old u1.old v0.old v1.old) }
+    ensures every_order { WalkIsLoop (R.means rule.now) (S.member set.now) (O.log order.now) (five table.old u0.old u1.old v0.old v1.old) }
+    ensures looped { CarefulIsLoop (R.means rule.now) (S.member set.now) (O.log order.now) (five table.old u0.old u1.old v0.old v1.old) (five table.new u0.new u1.new v0.new v1.new) }
 {
     let n = sites(order);
     if !all_sized(n * n, table.len(), u0.len(), u1.len(), v0.len(), v1.len()) {
@@ -61,14 +61,14 @@ fn walk_steps<R: Rule, S: UpdateSet, O: Order>(
     v0: &mut [R::Cell],
     v1: &mut [R::Cell],
 )
-    requires sites { n ≡ 2 ^ O.Order.log order.now }
+    requires sites { n ≡ 2 ^ O.log order.now }
     requires small { n ≤ 64 }
     requires sized { length table.old ≡ n * n }
     requires sized_u0 { length u0.old ≡ n * n }
     requires sized_u1 { length u1.old ≡ n * n }
     requires sized_v0 { length v0.old ≡ n * n }
     requires sized_v1 { length v1.old ≡ n * n }
-    ensures { five table.new u0.new u1.new v0.new v1.new ≡ walk (R.Rule.means rule.now) (S.UpdateSet.member set.now) n (O.Order.at order.now) table.old }
+    ensures { five table.new u0.new u1.new v0.new v1.new ≡ walk (R.means rule.now) (S.member set.now) n (O.at order.now) table.old }
 {
     u0.copy_from_slice(table);
     u1.copy_from_slice(table);
@@ -98,7 +98,7 @@ fn careful_step<R: Rule, S: UpdateSet>(
     requires sized_u1 { length u1.old ≡ n * n }
     requires sized_v0 { length v0.old ≡ n * n }
     requires sized_v1 { length v1.old ≡ n * n }
-    ensures { five table.new u0.new u1.new v0.new v1.new ≡ careful_step (R.Rule.means rule.now) (S.UpdateSet.member set.now) n step (five table.old u0.old u1.old v0.old v1.old) }
+    ensures { five table.new u0.new u1.new v0.new v1.new ≡ careful_step (R.means rule.now) (S.member set.now) n step (five table.old u0.old u1.old v0.old v1.old) }
 {
     if set.has(step) {
         let at = place_of(n, step.i, step.j);
@@ -125,7 +125,7 @@ fn careful_cell<R: Rule>(
     requires sized_u1 { length u1.now ≡ n * n }
     requires sized_v0 { length v0.now ≡ n * n }
     requires sized_v1 { length v1.now ≡ n * n }
-    ensures { (d : R.Cell) → result ≡ careful_value (R.Rule.means rule.now) n step (five table.now u0.now u1.now v0.now v1.now) (slice_index_or table.now (place n step.i step.j) d) }
+    ensures { (d : R.Cell) → result ≡ careful_value (R.means rule.now) n step (five table.now u0.now u1.now v0.now v1.now) (slice_index_or table.now (place n step.i step.j) d) }
 {
     let Step { i, j, k } = step;
     let x = cell_at(table, place_of(n, i, j));
@@ -165,11 +165,11 @@ fn store_cell<C: Copy>(
     requires at_u1 { at < length u1.old }
     requires at_v0 { at < length v0.old }
     requires at_v1 { at < length v1.old }
-    ensures table { table.new ≡ set table.old at x }
-    ensures u0 { u0.new ≡ (if nat_lt step.k step.j then set u0.old at x else u0.old) }
-    ensures u1 { u1.new ≡ (if nat_le step.k step.j then set u1.old at x else u1.old) }
-    ensures v0 { v0.new ≡ (if nat_lt step.k step.i then set v0.old at x else v0.old) }
-    ensures v1 { v1.new ≡ (if nat_le step.k step.i then set v1.old at x else v1.old) }
+    ensures table { table.new ≡ slice_set table.old at x }
+    ensures u0 { u0.new ≡ (if nat_lt step.k step.j then slice_set u0.old at x else u0.old) }
+    ensures u1 { u1.new ≡ (if nat_le step.k step.j then slice_set u1.old at x else u1.old) }
+    ensures v0 { v0.new ≡ (if nat_lt step.k step.i then slice_set v0.old at x else v0.old) }
+    ensures v1 { v1.new ≡ (if nat_le step.k step.i then slice_set v1.old at x else v1.old) }
 {
     table[at] = x;
     store_if(step.k < step.j, u0, at, x);

@@ -23,8 +23,8 @@ pub fn run_in_place<R: Rule, S: UpdateSet, O: Order>(
     order: &O,
     table: &mut [R::Cell],
 ) -> Result<(), LayoutFault>
-    ensures answer { result ≡ in_place_answer (O.Order.log order.now) table.old }
-    ensures table { table.new ≡ in_place_table (R.Rule.means rule.now) (S.UpdateSet.member set.now) (O.Order.log order.now) (O.Order.at order.now) table.old }
+    ensures answer { result ≡ in_place_answer (O.log order.now) table.old }
+    ensures table { table.new ≡ in_place_table (R.means rule.now) (S.member set.now) (O.log order.now) (O.at order.now) table.old }
 {
     let n = sites(order);
     if table.len() != n * n {
@@ -45,7 +45,7 @@ pub fn run_loop<R: Rule, S: UpdateSet>(
     table: &mut [R::Cell],
 ) -> Result<(), LayoutFault>
     ensures answer { result ≡ loop_answer exponent table.old }
-    ensures table { table.new ≡ loop_table (R.Rule.means rule.now) (S.UpdateSet.member set.now) exponent table.old }
+    ensures table { table.new ≡ loop_table (R.means rule.now) (S.member set.now) exponent table.old }
 {
     let order = LoopOrder::new(exponent)?;
     run_by_loop_order(rule, set, &order, table)
@@ -59,7 +59,7 @@ fn run_by_loop_order<R: Rule, S: UpdateSet>(
     table: &mut [R::Cell],
 ) -> Result<(), LayoutFault>
     ensures answer { result ≡ loop_answer order.now.exponent table.old }
-    ensures table { table.new ≡ loop_table (R.Rule.means rule.now) (S.UpdateSet.member set.now) order.now.exponent table.old }
+    ensures table { table.new ≡ loop_table (R.means rule.now) (S.member set.now) order.now.exponent table.old }
 {
     run_in_place(rule, set, order, table)
 }
@@ -72,10 +72,10 @@ fn run_steps<R: Rule, S: UpdateSet, O: Order>(
     n: usize,
     table: &mut [R::Cell],
 )
-    requires sites { n ≡ 2 ^ O.Order.log order.now }
+    requires sites { n ≡ 2 ^ O.log order.now }
     requires small { n ≤ 64 }
     requires sized { length table.old ≡ n * n }
-    ensures { table.new ≡ run_in_place (R.Rule.means rule.now) (S.UpdateSet.member set.now) n (O.Order.at order.now) table.old }
+    ensures { table.new ≡ run_in_place (R.means rule.now) (S.member set.now) n (O.at order.now) table.old }
 {
     for t in 0..n * n * n {
         apply_step(rule, set, n, step_at(order, n, t), table);
@@ -87,7 +87,7 @@ fn apply_step<R: Rule, S: UpdateSet>(rule: &R, set: &S, n: usize, step: Step, ta
     requires small { n ≤ 64 }
     requires within { Within n step }
     requires sized { length table.old ≡ n * n }
-    ensures { table.new ≡ step_in_place (R.Rule.means rule.now) (S.UpdateSet.member set.now) n step table.old }
+    ensures { table.new ≡ step_in_place (R.means rule.now) (S.member set.now) n step table.old }
 {
     if set.has(step) {
         let x = new_value(rule, n, step, table);
@@ -100,7 +100,7 @@ fn new_value<R: Rule>(rule: &R, n: usize, step: Step, table: &[R::Cell]) -> R::C
     requires small { n ≤ 64 }
     requires within { Within n step }
     requires sized { length table.now ≡ n * n }
-    ensures { (d : R.Cell) → result ≡ value_in_place (R.Rule.means rule.now) n step table.now (slice_index_or table.now (place n step.i step.j) d) }
+    ensures { (d : R.Cell) → result ≡ value_in_place (R.means rule.now) n step table.now (slice_index_or table.now (place n step.i step.j) d) }
 {
     let x = cell_at(table, place_of(n, step.i, step.j));
     let u = cell_at(table, place_of(n, step.i, step.k));

@@ -24,7 +24,7 @@ impl<V> Path<V> {
 impl<V: Kind> Rule for Path<V> {
     type Cell = V;
 
-    ghost means = { λ _ x u v w. V.Kind.ops.join x (V.Kind.ops.chain u v) };
+    ghost means = { λ _ x u v w. V.ops.join x (V.ops.chain u v) };
 
     fn apply(&self, x: V, u: V, v: V, w: V) -> V {
         x.join(u.chain(v))

@@ -9,7 +9,7 @@ use orders::step::Step;
 
 // The number of sites of an order. An order's exponent is at most 6, so it is never refused.
 pub(crate) fn sites<O: Order>(order: &O) -> usize
-    ensures power { result ≡ 2 ^ O.Order.log order.now }
+    ensures power { result ≡ 2 ^ O.log order.now }
     ensures small { result ≤ 64 }
 {
     match site_count(order.exponent()) {
@@ -20,9 +20,9 @@ pub(crate) fn sites<O: Order>(order: &O) -> usize
 
 // The step of a number below n³.
 pub(crate) fn step_at<O: Order>(order: &O, n: usize, t: usize) -> Step
-    requires sites { n ≡ 2 ^ O.Order.log order.now }
+    requires sites { n ≡ 2 ^ O.log order.now }
     requires below { t < step_count n }
-    ensures step { result ≡ O.Order.at order.now t }
+    ensures step { result ≡ O.at order.now t }
     ensures within { Within n result }
 {
     match order.step(t) {
