@@ -7,7 +7,7 @@ use Rattle.orders.specs.Lawful.{step_of}
 use Rattle.elimination.specs.Table.{place, changed, upto}
 
 -- what cell (i, j) becomes by step (i, j, k): rule of itself and of the cells (i, k), (k, j) and (k, k).
--- In a table of n × n cells each of these is there, so that the default of get_or does not matter.
+-- In a table of n × n cells each of these is there, so that the default of slice_index_or does not matter.
 abbrev pub value_in_place : {X : Type 0} → (X → X → X → X → X) → ℕ → Step → List X → X → X
 value_in_place rule n s xs x =
     rule x (slice_index_or xs (place n s.i s.k) x) (slice_index_or xs (place n s.k s.j) x) (slice_index_or xs (place n s.k s.k) x)

@@ -1,5 +1,5 @@
 -- The careful walk: the steps of an order with four side tables, and what it is to leave. Assumes nothing.
-use Rattle.std.specs.Prelude.{◌≡◌, ℕ, suc, ◌<◌, Bool, cond, ◌&&◌, ◌||◌, List, get_or, ◌==◌, nat_le, nat_lt, slice_index_or}
+use Rattle.std.specs.Prelude.{◌≡◌, ℕ, suc, ◌<◌, Bool, cond, ◌&&◌, ◌||◌, List, ◌==◌, nat_le, nat_lt, slice_index_or}
 use Rattle.orders.specs.declared.step.Step.{Step}
 use Rattle.orders.specs.Order.{step_count}
 use Rattle.elimination.specs.Table.{place, changed, upto}
@@ -37,7 +37,7 @@ careful_value rule n s T x =
 
 -- ys with its cell at p as xs has it, where b says so
 abbrev pub copied_if : {X : Type 0} → Bool → List X → ℕ → List X → List X
-copied_if b xs p ys = cond b (changed ys p (λ y. get_or xs p y)) ys
+copied_if b xs p ys = cond b (changed ys p (λ y. slice_index_or xs p y)) ys
 
 -- cell (i, j) with its new value, which is kept in u0 if k < j, in u1 if k ≤ j, in v0 if k < i, in v1 if k ≤ i
 abbrev pub kept : {X : Type 0} → ℕ → Step → List X → Tables X → Tables X

@@ -16,5 +16,5 @@ channel_sets = record {
   chain = λ a b. channels (bit_and a.set b.set) (and_lt 64 a.set b.set a.fits b.fits);
   none = channels 0 (omega arith);
   here = channels 18446744073709551615 (omega arith);
-  same = λ a b. (a.set == b.set);
+  same = λ a b. a.set == b.set;
 }

@@ -14,5 +14,5 @@ costs = record {
   chain = λ a b. cost (min (a.value + b.value) 4294967295) (omega arith);
   none = cost 4294967295 (omega arith);
   here = cost 0 (omega arith);
-  same = λ a b. (a.value == b.value);
+  same = λ a b. a.value == b.value;
 }

@@ -14,5 +14,5 @@ widths = record {
   chain = λ a b. width (min a.value b.value) (omega arith);
   none = width 0 (omega arith);
   here = width 4294967295 (omega arith);
-  same = λ a b. (a.value == b.value);
+  same = λ a b. a.value == b.value;
 }

@@ -1,7 +1,7 @@
 // The orders in which the steps of the elimination loop may be worked.
 // A step names a cell and a pivot; an order lists all n³ steps of a table of n = 2^q sites, each
 // once, and shows that its list is lawful. Given are the loop order, the recursive order, and the
-// recursive order written out as a list of codes. proofs/Nesting has what nested orders rest on.
+// recursive order written out as a list of codes. specs/Nesting has what nested orders rest on.
 // Stands on the crate of faults. Read size, step, order, loop_order, recursive_order, codes.
 #![tactic(auto)]
 

@@ -22,6 +22,7 @@ pub trait Order {
     fn step(&self, t: usize) -> Option<Step>
         ensures { result ≡ step_answer (2 ^ log self.now) (at self.now) t };
 
+    // What each order shows.
     ghost small: { (o : Self) → log o ≤ 6 };
 
     ghost lawful: { (o : Self) → Lawful (2 ^ log o) (at o) };
