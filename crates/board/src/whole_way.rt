@@ -1,16 +1,18 @@
 // One board from its making on, with each kind of call, and what it shows.
-ghost use Rattle.std.specs.Prelude.{◌≡◌};
+ghost use Rattle.std.specs.Prelude.{◌≡◌, Ok};
+ghost use Rattle.std.specs.Result.{result_map_both};
 ghost use Rattle.board.specs.WholeWay.{Went};
 
 use crate::draft::Draft;
-use faults::LinkFault;
+use faults::{LayoutFault, LinkFault};
 use kinds::cells::Cost;
 use orders::loop_order::LoopOrder;
+use orders::order::Order;
 use orders::recursive_order::RecursiveOrder;
 
 /// What the calls on one board of four sites answer, in their order; the asks are from site 0 to
 /// site 2.
-#[derive(Drop)]
+#[derive(Clone, Copy, PartialEq, Eq, Debug)]
 pub struct Answers {
     pub first_link: Result<(), LinkFault>,
     pub second_link: Result<(), LinkFault>,
@@ -32,13 +34,13 @@ pub fn whole_way() -> Answers
     let first_link = draft.post(0, 1, Cost::new(10));
     let second_link = draft.post(1, 2, Cost::new(5));
     let same_site = draft.post(1, 1, Cost::new(1));
-    let mut board = draft.settle(2, &recursive());
+    let mut board = draft.settle(2, &of_four(RecursiveOrder::new(2)));
     let settled = board.ask(0, 2);
     let better_link = board.post(0, 2, Cost::new(9));
     let improved = board.ask(0, 2);
     let mut reopened = board.reopen();
     let withdrawn = reopened.withdraw(0, 2);
-    let again = reopened.settle(2, &looping());
+    let again = reopened.settle(2, &of_four(LoopOrder::new(2)));
     let settled_again = again.ask(0, 2);
     Answers {
         first_link,
@@ -52,22 +54,10 @@ pub fn whole_way() -> Answers
     }
 }
 
-// The recursive order of four sites.
-fn recursive() -> RecursiveOrder
-    ensures { result.exponent ≡ 2 }
+// An order of four sites, which was made.
+fn of_four<O: Order>(order: Result<O, LayoutFault>) -> O
+    requires { result_map_both (λ o. O.log o) (λ e. e) order ≡ Ok 2 }
+    ensures { O.log result ≡ 2 }
 {
-    match RecursiveOrder::new(2) {
-        Ok(order) => order,
-        Err(_) => unreachable(),
-    }
-}
-
-// The loop order of four sites.
-fn looping() -> LoopOrder
-    ensures { result.exponent ≡ 2 }
-{
-    match LoopOrder::new(2) {
-        Ok(order) => order,
-        Err(_) => unreachable(),
-    }
+    order.unwrap()
 }

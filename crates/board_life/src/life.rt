@@ -1,38 +1,33 @@
 // The life of a board of four mirrors, and a second board that goes another way.
-use crate::failure::Failure;
-use crate::show::{Costs, MIRRORS, grid, heading};
+use anyhow::Result;
 use board::draft::Draft;
 use board::settled::Settled;
 use faults::LinkFault;
 use kinds::cells::Cost;
 use kinds::kind::Kind;
+use mirrors::Mirror::{Bergen, Geneva, Kyoto, Lima};
+use mirrors::{CostTable, Heading, Mirror};
 use orders::loop_order::LoopOrder;
 use orders::recursive_order::RecursiveOrder;
 use std::io;
 
-const BERGEN: usize = 0;
-
-const GENEVA: usize = 1;
-
-const KYOTO: usize = 2;
-
-const LIMA: usize = 3;
-
 // Four mirrors are 2^2.
 const EXPONENT: u32 = 2;
 
-// Geneva and Kyoto as relays: bits 1 and 2.
-const RELAYS: u64 = 6;
+// A site that the board has not.
+const OUTSIDE: usize = 4;
+
+// Geneva and Kyoto as relays. By `as`: a const can't call `site`.
+const RELAYS: u64 = (1 << Geneva as u32) | (1 << Kyoto as u32);
+
+// Sites from 4 up, which the board has not, as relays.
+const RELAYS_OUTSIDE: u64 = 0b1111_0000;
 
 /// A board from its making on, and then whether a board that went another way shows the same.
-pub(crate) fn life(rt: &HostRuntime) -> Result<(), Failure> {
-    heading(rt, "The life of a board", "-------------------")?;
+pub(crate) fn life(rt: &impl Print) -> Result<()> {
+    println!(rt; "{}", Heading("The life of a board"))?;
     let first = first_board(rt)?;
-    heading(
-        rt,
-        "\nAnother board, another way",
-        "--------------------------",
-    )?;
+    println!(rt; "\n{}", Heading("Another board, another way"))?;
     let second = second_board(rt)?;
     if first == second {
         println!(rt; "It shows what the first board shows, for every pair.")?;
@@ -43,7 +38,7 @@ pub(crate) fn life(rt: &HostRuntime) -> Result<(), Failure> {
 }
 
 // A board that is settled, improved, reopened and settled again; the distances that it shows last.
-fn first_board(rt: &HostRuntime) -> Result<Costs, Failure> {
+fn first_board(rt: &impl Print) -> Result<CostTable> {
     let mut ground = [Cost::new(99); 32];
     let mut draft = Draft::make(&mut ground, EXPONENT);
     draw_up(rt, &mut draft)?;
@@ -59,31 +54,31 @@ fn first_board(rt: &HostRuntime) -> Result<Costs, Failure> {
 }
 
 // Posts the first links, and two that are refused.
-fn draw_up(rt: &HostRuntime, draft: &mut Draft<Cost>) -> Result<(), Failure> {
+fn draw_up(rt: &impl Print, draft: &mut Draft<Cost>) -> Result<()> {
     println!(rt; "On a new board of four mirrors these links are posted:")?;
-    post(rt, draft, BERGEN, GENEVA, 4)?;
-    post(rt, draft, GENEVA, KYOTO, 9)?;
-    post(rt, draft, KYOTO, LIMA, 7)?;
-    post(rt, draft, BERGEN, KYOTO, 20)?;
-    refuse(rt, draft, GENEVA, GENEVA)?;
-    refuse(rt, draft, LIMA, 4)?;
+    post(rt, draft, Bergen, Geneva, 4)?;
+    post(rt, draft, Geneva, Kyoto, 9)?;
+    post(rt, draft, Kyoto, Lima, 7)?;
+    post(rt, draft, Bergen, Kyoto, 20)?;
+    refuse(rt, draft, Geneva.site(), Geneva.site())?;
+    refuse(rt, draft, Lima.site(), OUTSIDE)?;
     println!(rt; "It has {} links.", draft.count())?;
     Ok(())
 }
 
 // Posts a link on the settled board.
-fn improve(rt: &HostRuntime, board: &mut Settled<Cost>) -> Result<(), Failure> {
+fn improve(rt: &impl Print, board: &mut Settled<Cost>) -> Result<()> {
     println!(rt; "A link is posted on the settled board:")?;
-    say_link(rt, GENEVA, LIMA, 5)?;
-    board.post(GENEVA, LIMA, Cost::new(5))?;
+    say_link(rt, Geneva, Lima, 5)?;
+    board.post(Geneva.site(), Lima.site(), Cost::new(5))?;
     println!(rt; "At once it shows better ways from Bergen and Geneva to Lima:")?;
     show_distances(rt, board)?;
     Ok(())
 }
 
 // Withdraws a link of the reopened board.
-fn take_back(rt: &HostRuntime, draft: &mut Draft<Cost>) -> Result<(), Failure> {
-    draft.withdraw(GENEVA, KYOTO)?;
+fn take_back(rt: &impl Print, draft: &mut Draft<Cost>) -> Result<()> {
+    draft.withdraw(Geneva.site(), Kyoto.site())?;
     println!(rt; "Reopened, and the link from Geneva to Kyoto withdrawn.")?;
     println!(rt; "It has {} links.", draft.count())?;
     Ok(())
@@ -91,61 +86,52 @@ fn take_back(rt: &HostRuntime, draft: &mut Draft<Cost>) -> Result<(), Failure> {
 
 // A board that comes to the same links by other calls, on a longer ground, by another order and
 // with a relay word that names sites which the board has not.
-fn second_board(rt: &HostRuntime) -> Result<Costs, Failure> {
+fn second_board(rt: &impl Print) -> Result<CostTable> {
     let mut ground = [Cost::here(); 40];
     let mut draft = Draft::make(&mut ground, EXPONENT);
     println!(rt; "Posted on a longer ground:")?;
-    post(rt, &mut draft, GENEVA, LIMA, 8)?;
-    post(rt, &mut draft, BERGEN, LIMA, 1)?;
+    post(rt, &mut draft, Geneva, Lima, 8)?;
+    post(rt, &mut draft, Bergen, Lima, 1)?;
     let mut board = draft.settle(0, &LoopOrder::new(EXPONENT)?);
     println!(rt; "Settled without relays; posted there:")?;
-    say_link(rt, KYOTO, LIMA, 7)?;
-    board.post(KYOTO, LIMA, Cost::new(7))?;
+    say_link(rt, Kyoto, Lima, 7)?;
+    board.post(Kyoto.site(), Lima.site(), Cost::new(7))?;
     let mut draft = board.reopen();
     redraw(rt, &mut draft)?;
-    let board = draft.settle(RELAYS + 240, &RecursiveOrder::new(EXPONENT)?);
+    let board = draft.settle(RELAYS | RELAYS_OUTSIDE, &RecursiveOrder::new(EXPONENT)?);
     println!(rt; "Settled with Geneva, Kyoto and sites from 4 up as relays it shows")?;
     show_distances(rt, &board)
 }
 
 // Brings the links of the second board to those of the first.
-fn redraw(rt: &HostRuntime, draft: &mut Draft<Cost>) -> Result<(), Failure> {
+fn redraw(rt: &impl Print, draft: &mut Draft<Cost>) -> Result<()> {
     println!(rt; "Reopened; the link from Bergen to Lima withdrawn; posted:")?;
-    draft.withdraw(BERGEN, LIMA)?;
-    post(rt, draft, BERGEN, KYOTO, 20)?;
-    post(rt, draft, GENEVA, LIMA, 5)?;
-    post(rt, draft, BERGEN, GENEVA, 4)
+    draft.withdraw(Bergen.site(), Lima.site())?;
+    post(rt, draft, Bergen, Kyoto, 20)?;
+    post(rt, draft, Geneva, Lima, 5)?;
+    post(rt, draft, Bergen, Geneva, 4)
 }
 
 // Posts a link and says so.
 fn post(
-    rt: &HostRuntime,
+    rt: &impl Print,
     draft: &mut Draft<Cost>,
-    from: usize,
-    to: usize,
+    from: Mirror,
+    to: Mirror,
     cost: u32,
-) -> Result<(), Failure> {
-    draft.post(from, to, Cost::new(cost))?;
+) -> Result<()> {
+    draft.post(from.site(), to.site(), Cost::new(cost))?;
     say_link(rt, from, to, cost)?;
     Ok(())
 }
 
 // Says from where to where a link goes, and what it costs.
-fn say_link(rt: &HostRuntime, from: usize, to: usize, cost: u32) -> io::Result<()> {
-    if (from < 4) & (to < 4) {
-        println!(rt; "    {} to {}: {cost}", MIRRORS[from], MIRRORS[to])
-    } else {
-        println!(rt; "    site {from} to site {to}: {cost}")
-    }
+fn say_link(rt: &impl Print, from: Mirror, to: Mirror, cost: u32) -> io::Result<()> {
+    println!(rt; "    {from} to {to}: {cost}")
 }
 
 // Posts a link that is refused, and says with which number.
-fn refuse(
-    rt: &HostRuntime,
-    draft: &mut Draft<Cost>,
-    from: usize,
-    to: usize,
-) -> Result<(), Failure> {
+fn refuse(rt: &impl Print, draft: &mut Draft<Cost>, from: usize, to: usize) -> Result<()> {
     match draft.post(from, to, Cost::new(1)) {
         Ok(()) => println!(rt; "    site {from} to site {to} is taken")?,
         Err(fault) => println!(rt;
@@ -157,17 +143,19 @@ fn refuse(
 }
 
 // Prints what a settled board shows.
-fn show_distances(rt: &HostRuntime, board: &Settled<Cost>) -> Result<Costs, Failure> {
+fn show_distances(rt: &impl Print, board: &Settled<Cost>) -> Result<CostTable> {
     let shown = distances(board)?;
-    grid(rt, &shown)?;
+    println!(rt; "{shown}")?;
     Ok(shown)
 }
 
 // What a settled board shows, for every pair of mirrors.
-fn distances(board: &Settled<Cost>) -> Result<Costs, LinkFault> {
-    let mut shown = [Cost::none(); 16];
-    for p in 0..16 {
-        shown[p] = board.ask(p / 4, p % 4)?;
+fn distances(board: &Settled<Cost>) -> Result<CostTable, LinkFault> {
+    let mut cells = [Cost::none(); 16];
+    for (row, from) in cells.chunks_exact_mut(4).zip(Mirror::ALL) {
+        for (cell, to) in row.iter_mut().zip(Mirror::ALL) {
+            *cell = board.ask(from.site(), to.site())?;
+        }
     }
-    Ok(shown)
+    Ok(CostTable { cells })
 }

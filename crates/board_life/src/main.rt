@@ -2,12 +2,8 @@
 // The distances come from the board, whose results are proved; this program prints and compares them.
 #![tactic(auto)]
 
-mod failure;
 mod life;
-mod show;
 
-use failure::Failure;
-
-fn main(rt: HostRuntime) -> Result<(), Failure> {
+fn main(rt: HostRuntime) -> anyhow::Result<()> {
     life::life(&rt)
 }

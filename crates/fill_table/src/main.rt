@@ -2,14 +2,11 @@
 // The tables come from the runs, whose results are proved; this program prints and compares them.
 #![tactic(auto)]
 
-mod failure;
 mod network;
 mod show;
 mod summing;
 
-use failure::Failure;
-
-fn main(rt: HostRuntime) -> Result<(), Failure> {
-    show::summing(&rt)?;
-    show::network(&rt)
+fn main(rt: HostRuntime) -> anyhow::Result<()> {
+    show::show_summing(&rt)?;
+    show::show_network(&rt)
 }

@@ -12,6 +12,7 @@ use runs::sum::Sum;
 pub(crate) const START: [u32; 4] = [0, 0, 0, 1];
 
 /// What the loop leaves.
+#[tactic(auto, using(crate::proofs::Computed::loop_leaves))]
 pub(crate) fn by_loop() -> Result<[u32; 4], LayoutFault>
     ensures { result ≡ Ok (1 ∷ 2 ∷ 2 ∷ 4 ∷ []) }
 {
@@ -21,6 +22,7 @@ pub(crate) fn by_loop() -> Result<[u32; 4], LayoutFault>
 }
 
 /// What the run in place by the recursive order leaves.
+#[tactic(auto, using(crate::proofs::Computed::run_leaves))]
 pub(crate) fn in_place() -> Result<[u32; 4], LayoutFault>
     ensures { result ≡ Ok (20 ∷ 8 ∷ 8 ∷ 4 ∷ []) }
 {
@@ -41,15 +43,13 @@ pub(crate) struct FiveTables {
 }
 
 /// What the careful run by the recursive order leaves.
+#[tactic(auto, using(crate::proofs::Computed::walk_leaves))]
 pub(crate) fn careful() -> Result<FiveTables, LayoutFault>
     ensures { result ≡ Ok (record { table = 1 ∷ 2 ∷ 2 ∷ 4 ∷ []; u0 = 0 ∷ 0 ∷ 0 ∷ 1 ∷ []; u1 = 0 ∷ 2 ∷ 0 ∷ 4 ∷ []; v0 = 0 ∷ 0 ∷ 0 ∷ 1 ∷ []; v1 = 0 ∷ 0 ∷ 2 ∷ 4 ∷ [] }) }
 {
     let order = RecursiveOrder::new(1)?;
     let mut table = START;
-    let mut u0 = [0; 4];
-    let mut u1 = [0; 4];
-    let mut v0 = [0; 4];
-    let mut v1 = [0; 4];
+    let [mut u0, mut u1, mut v0, mut v1] = [[0; 4]; 4];
     careful_run(
         &Sum, &AllSteps, &order, &mut table, &mut u0, &mut u1, &mut v0, &mut v1,
     )?;

@@ -2,6 +2,7 @@
 use Rattle.std.proofs.Common.{◌≡◌, ℕ, ◌+◌, ◌-◌, ◌*◌, ◌<◌, ◌≤◌, List, ◌++◌, length, get_or, take, drop, set, sym, ap, ◌∙◌, arith}
 use lib.Seq.{paste}
 use borrow.Rule.Slice.PartMut.{put_mid}
+use Rattle.std.specs.List.{copy_within}
 use Rattle.std.proofs.lemmas.List.{append_assoc, length-take-le, get_or_append_left, take_at, drop_at}
 use Rattle.std.proofs.lemmas.List.Edits.{paste_none, paste_more, paste_all}
 
@@ -19,6 +20,9 @@ module _ {X : Type 0} (m : ℕ) (xs : List X) where
 
   pub copied_none : copied_until 0 ≡ xs
   copied_none = sym (paste_none xs m links)
+
+  pub copied_is : copy_within xs 0 m m ≡ copied
+  copied_is = grind (arith, append_assoc)
 
   module _ (room : 2 * m ≤ length xs) where
     long : length links ≡ m
@@ -39,11 +43,7 @@ module _ {X : Type 0} (m : ℕ) (xs : List X) where
 
     -- the part that holds the routes, and what a write to it leaves
     pub routes_part : take (2 * m - m) (drop m copied) ≡ links
-    routes_part =
-        ap (take (2 * m - m)) (drop_at links (links ++ drop (2 * m) xs) m long) ∙ take_at links (drop (2 * m) xs) (2 * m - m) (omega (arith, long))
+    routes_part = grind (arith, long, take_at, drop_at)
 
     pub routes_written : (ys : List X) → put_mid m (2 * m - m) copied ys ≡ links ++ (ys ++ drop (2 * m) xs)
-    routes_written ys =
-        ap (λ zs. zs ++ (ys ++ drop (2 * m - m) (drop m copied))) (take_at links (links ++ drop (2 * m) xs) m long)
-        ∙ ap (λ zs. links ++ (ys ++ zs))
-        (ap (drop (2 * m - m)) (drop_at links (links ++ drop (2 * m) xs) m long) ∙ drop_at links (drop (2 * m) xs) (2 * m - m) (omega (arith, long)))
+    routes_written ys = grind (arith, long, take_at, drop_at)

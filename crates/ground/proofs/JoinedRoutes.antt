@@ -1,8 +1,7 @@
 -- The routes of a board joined in place one after another, which leaves what the joins from the old routes leave: the
 -- routes that are read never change. Assumes the laws of kinds.
-use Rattle.std.proofs.Common.{◌≡◌, ℕ, ◌+◌, ◌*◌, ◌/◌, ◌%◌, ◌<◌, ◌≤◌, Bool, true, false, cond, ◌&&◌, List, length, get_or, set, sym, refl, ap, ◌∙◌, ⊎_elim, arith}
+use Rattle.std.proofs.Common.{◌≡◌, ℕ, ◌+◌, ◌*◌, ◌/◌, ◌%◌, ◌<◌, ◌≤◌, Bool, true, false, cond, ◌&&◌, List, length, get_or, set, sym, refl, ap, ◌∙◌, arith}
 use Rattle.std.proofs.lemmas.List.{set-get_or}
-use Rattle.std.proofs.lemmas.Bool.{cases_lt}
 use Rattle.kinds.specs.Kind.{Ops, Laws}
 use Rattle.kinds.proofs.Order.{join_chained_right, join_chained_left}
 use Rattle.elimination.proofs.WalkIsLoop.{cell_of_place}
@@ -10,8 +9,12 @@ use Rattle.paths.specs.Ground.{route_place, route_at}
 use Rattle.paths.specs.Calls.{meets, joined_cell, join_routes}
 use Rattle.paths.proofs.JoinedCells.{joined_before, joined_past, joined_at_route}
 use Rattle.paths.proofs.Places.{route_inside}
-use Rattle.ground.specs.Cells.{join_route}
+use Rattle.ground.specs.Cells.{Pair, join_route}
 use Rattle.ground.proofs.Until.{until, until_passed, until_ahead, until_more, until_idle, until_all}
+
+-- the sites of the route at place p
+pub pair_at : (n p : ℕ) → p < n * n → Pair n (p / n) (p % n)
+pair_at n p h = let at = cell_of_place n p h in record { first = at.0; second = at.1 }
 
 module _ {V : Type 0} (o : Ops V) (n word from to : ℕ) (v : V) (xs : List V) where
   -- the cell at a place, joined from the old routes
@@ -25,8 +28,8 @@ module _ {V : Type 0} (o : Ops V) (n word from to : ℕ) (v : V) (xs : List V) w
   pub joined_none : joined_until 0 ≡ xs
   joined_none = ap (until cell xs) (let e : n * n + 0 ≡ n * n = omega arith in e) ∙ until_idle cell xs (n * n) (joined_before o n word from to v xs)
 
-  pub joined_all : joined_until (n * n) ≡ join_routes o n word from to v xs
-  joined_all = ap (until cell xs) (let e : n * n + n * n ≡ 2 * (n * n) = omega arith in e) ∙ until_all cell xs (2 * (n * n)) (joined_past o n word from to v xs)
+  pub joined_all : (p : ℕ) → p ≡ n * n → joined_until p ≡ join_routes o n word from to v xs
+  joined_all p all = ap (until cell xs) (let e : n * n + p ≡ 2 * (n * n) = omega arith in e) ∙ until_all cell xs (2 * (n * n)) (joined_past o n word from to v xs)
 
   module _ (k : Laws o) (room : 2 * (n * n) ≤ length xs) (hf : from < n) (ht : to < n) where
     either : (t : Bool) (x y : V) → y ≡ x → cond t y x ≡ x
@@ -55,10 +58,8 @@ module _ {V : Type 0} (o : Ops V) (n word from to : ℕ) (v : V) (xs : List V) w
     -- so they are as they were, however far the joins have come
     kept : (m a b : ℕ) → a < n → b < n → cell (route_place n a b) (route_at o n xs a b) ≡ route_at o n xs a b → route_at o n (until cell xs m) a b ≡ route_at o n xs a b
     kept m a b ha hb same =
-        ⊎_elim
-        (λ (less : route_place n a b < m). until_passed cell xs m (route_place n a b) o.none (inside a b ha hb) less ∙ same)
-        (λ (more : m ≤ route_place n a b). until_ahead cell xs m (route_place n a b) o.none (inside a b ha hb) more)
-        (cases_lt (route_place n a b) m)
+        let here : route_place n a b < length xs = inside a b ha hb in
+        grind (arith, until_passed, until_ahead)
 
     -- one route more
     pub joined_more : (p : ℕ) → p < n * n → joined_until (p + 1) ≡ join_route o n word from to v (p / n) (p % n) (joined_until p)

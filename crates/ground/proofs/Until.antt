@@ -1,7 +1,7 @@
 -- The cells before a place put through a function while the others stay, as a loop over a ground leaves them. Assumes nothing.
-use Rattle.std.proofs.Common.{◌≡◌, ℕ, ◌+◌, ◌<◌, ◌≤◌, cond, ltb, List, length, get_or, set, sym, ap, ◌∙◌, subst, ⊎_elim, arith}
+use Rattle.std.proofs.Common.{◌≡◌, ℕ, ◌+◌, ◌<◌, ◌≤◌, cond, ltb, List, length, get_or, set, sym, ap, ◌∙◌, arith}
 use Rattle.std.proofs.lemmas.List.{same_lists, get_or_default, length-set, get_or-set_same, get_or-set_other}
-use Rattle.std.proofs.lemmas.Bool.{lt-ltb, le-ltb, cases_eq, cases_lt}
+use Rattle.std.proofs.lemmas.Bool.{lt-ltb, le-ltb}
 use Rattle.paths.specs.Ground.{by_place}
 use Rattle.paths.proofs.Places.{length-by_place, get_or-by_place}
 
@@ -22,45 +22,23 @@ module _ {X : Type 0} (f : ℕ → X → X) (xs : List X) where
   unfolding until
   until_ahead m k d h p = get_or-by_place _ xs k d h ∙ ap (λ b. cond b (f k (get_or xs k d)) (get_or xs k d)) (le-ltb k m p)
 
-  until_here : (m : ℕ) (d e : X) → m < length xs → get_or (until f xs (m + 1)) m e ≡ get_or (set (until f xs m) m (f m (get_or xs m d))) m e
-  until_here m d e h =
-      until_passed (m + 1) m e h (omega arith)
-      ∙ ap (f m) (get_or_default xs m e d h)
-      ∙ sym (get_or-set_same (until f xs m) m (f m (get_or xs m d)) e (omega (arith, length-until m)))
-
   -- one cell more
   pub until_more : (m : ℕ) (d : X) → m < length xs → until f xs (m + 1) ≡ set (until f xs m) m (f m (get_or xs m d))
   until_more m d h =
-      same_lists _ _ (length-until (m + 1) ∙ sym (length-set (until f xs m) m (f m (get_or xs m d)) ∙ length-until m)) at
-    where
-      at : (k : ℕ) (e : X) → k < length (until f xs (m + 1)) → get_or (until f xs (m + 1)) k e ≡ get_or (set (until f xs m) m (f m (get_or xs m d))) k e
-      at k e l =
-          let inside : k < length xs = omega (arith, length-until (m + 1)) in
-          ⊎_elim
-          (λ (same : k ≡ m). subst (λ i. get_or (until f xs (m + 1)) i e ≡ get_or (set (until f xs m) m (f m (get_or xs m d))) i e) (sym same) (until_here m d e h))
-          (λ (apart : k ≡ m → ⊥).
-          ⊎_elim
-          (λ (less : k < m). until_passed (m + 1) k e inside (omega arith) ∙ sym (get_or-set_other (until f xs m) m k (f m (get_or xs m d)) e apart ∙ until_passed m k e inside less))
-          (λ (more : m ≤ k). until_ahead (m + 1) k e inside (omega arith) ∙ sym (get_or-set_other (until f xs m) m k (f m (get_or xs m d)) e apart ∙ until_ahead m k e inside more))
-          (cases_lt k m))
-          (cases_eq k m)
+      same_lists _ _ (length-until (m + 1) ∙ sym (length-set (until f xs m) m (f m (get_or xs m d)) ∙ length-until m)) (λ k e l.
+      let inside : k < length xs = omega (arith, length-until (m + 1)) in
+      grind (arith, until_passed, until_ahead, get_or-set_same, get_or-set_other, get_or_default xs m d e h, length-until m))
 
   -- where f leaves every cell before m, nothing is changed yet
   pub until_idle : (m : ℕ) → ((k : ℕ) (x : X) → k < m → f k x ≡ x) → until f xs m ≡ xs
   until_idle m idle =
       same_lists _ _ (length-until m) (λ k e l.
       let inside : k < length xs = omega (arith, length-until m) in
-      ⊎_elim
-      (λ (less : k < m). until_passed m k e inside less ∙ idle k (get_or xs k e) less)
-      (λ (more : m ≤ k). until_ahead m k e inside more)
-      (cases_lt k m))
+      grind (arith, until_passed, until_ahead, idle))
 
   -- where f leaves every cell from m on, all is done
   pub until_all : (m : ℕ) → ((k : ℕ) (x : X) → m ≤ k → f k x ≡ x) → until f xs m ≡ by_place f xs
   until_all m idle =
       same_lists _ _ (length-until m ∙ sym (length-by_place f xs)) (λ k e l.
       let inside : k < length xs = omega (arith, length-until m) in
-      ⊎_elim
-      (λ (less : k < m). until_passed m k e inside less ∙ sym (get_or-by_place f xs k e inside))
-      (λ (more : m ≤ k). until_ahead m k e inside more ∙ sym (get_or-by_place f xs k e inside ∙ idle k (get_or xs k e) more))
-      (cases_lt k m))
+      grind (arith, until_passed, until_ahead, get_or-by_place, idle))

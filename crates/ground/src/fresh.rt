@@ -2,28 +2,24 @@
 ghost use Rattle.std.specs.Prelude.{◌≡◌, ◌*◌, ◌<◌, ◌≤◌};
 ghost use Rattle.paths.specs.Calls.{make_ground, diagonal};
 ghost use Rattle.ground.specs.Cells.{fresh_cell};
+ghost use Rattle.ground.specs.Kept.{Kept};
 
-use crate::sites::sites_on;
+use crate::ground::Ground;
 use kinds::kind::Kind;
 
-/// Lays the links and the routes of a new board: here from each site to itself, none elsewhere. The
-/// later cells stay, and all cells stay where there are no sites.
-pub fn lay_out<V: Kind>(ground: &mut [V], exponent: u32)
-    ensures { ground.new ≡ make_ground V.ops exponent ground.old }
-{
-    let n = sites_on(exponent, ground.len());
-    let cells = board_cells(n);
-    for p in 0..cells {
-        ground[p] = fresh_cell(n, p);
+impl<V: Kind> Ground<'_, V> {
+    /// Lays the links and the routes of a new board: here from each site to itself, none elsewhere.
+    /// The later cells stay, and all cells stay where there are no sites.
+    #[tactic(auto, using(crate::proofs::FreshCells::ground_laid))]
+    pub fn lay_out(&mut self)
+        ensures cells { self.new.cells.now ≡ make_ground V.ops self.old.exponent self.old.cells.now }
+        ensures kept { Kept self.old self.new }
+    {
+        let n = self.n;
+        for (p, cell) in self.cells[..2 * (n * n)].iter_mut().enumerate() {
+            *cell = fresh_cell(n, p);
+        }
     }
-}
-
-// How many cells a board takes.
-fn board_cells(n: usize) -> usize
-    requires { n ≤ 64 }
-    ensures { result ≡ 2 * (n * n) }
-{
-    n * n + n * n
 }
 
 // The cell at a place of the two tables.

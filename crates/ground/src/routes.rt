@@ -1,138 +1,135 @@
 // The routes of a board: the n² cells after its links.
-ghost use Rattle.std.specs.Prelude.{◌≡◌, ◌*◌, ◌<◌, ◌≤◌, length, slice_set};
+ghost use Rattle.std.specs.Prelude.{◌≡◌, ◌*◌, ◌<◌, slice_set};
 ghost use Rattle.elimination.specs.Table.{place};
 ghost use Rattle.paths.specs.Ground.{link_at, route_at, route_place};
 ghost use Rattle.paths.specs.Calls.{settled, post_answer, post_ground, meets, join_routes, ask_answer};
-ghost use Rattle.ground.specs.Cells.{Room, Pair, join_route};
+ghost use Rattle.ground.specs.Cells.{Pair, join_route};
+ghost use Rattle.ground.specs.Kept.{Kept};
 
-use crate::links::{cell_at, join_link, link_place};
-use crate::sites::{check_pair, sites_on};
+use crate::ground::Ground;
+use crate::sites::sites_on;
 use faults::LinkFault;
 use kinds::kind::Kind;
+use runs::relays::Relays;
 
-// Where the route from i to j stands.
-fn route_place(n: usize, i: usize, j: usize) -> usize
-    requires small { n ≤ 64 }
-    requires pair { Pair n i j }
-    ensures place { result ≡ route_place n i j }
-    ensures inside { result < 2 * (n * n) }
-{
-    n * n + link_place(n, i, j)
+// A link that is posted: a value from one site to another.
+#[derive(Clone, Copy)]
+struct Link<V> {
+    from: usize,
+    to: usize,
+    value: V,
 }
 
-// The route from i to j.
-fn route_at<V: Kind>(ground: &[V], n: usize, i: usize, j: usize) -> V
-    requires room { Room n (length ground.now) }
-    requires pair { Pair n i j }
-    ensures { result ≡ route_at V.ops n ground.now i j }
-{
-    cell_at(ground, route_place(n, i, j))
+impl<V: Kind> Ground<'_, V> {
+    // Where the route from i to j stands: behind the links, since a board stands on one lent slice.
+    fn route_place(&self, i: usize, j: usize) -> usize
+        requires { Pair self.now.n i j }
+        ensures place { result ≡ route_place self.now.n i j }
+        ensures inside { result < 2 * (self.now.n * self.now.n) }
+    {
+        self.n * self.n + self.link_place(i, j)
+    }
+
+    // The route from i to j.
+    fn route_at(&self, i: usize, j: usize) -> V
+        requires { Pair self.now.n i j }
+        ensures { result ≡ route_at V.ops self.now.n self.now.cells.now i j }
+    {
+        self.cells[self.route_place(i, j)]
+    }
+
+    /// The route from one site to another, which may be the same.
+    /// Refused with number 1 for a site not below n.
+    pub fn ask_route(&self, from: usize, to: usize) -> Result<V, LinkFault>
+        ensures { result ≡ ask_answer V.ops self.now.exponent from to self.now.cells.now }
+    {
+        ask_route(self.cells, self.exponent, from, to)
+    }
+
+    /// Joins a value to the link from one site to another, and each route from a to b with the chain
+    /// of route a to `from`, the value, and route `to` to b, where a is `from` or `from` is a relay,
+    /// and b is `to` or `to` is a relay.
+    /// Refused with number 1 for a site not below n, then with number 2 for the same site twice; a
+    /// refusal leaves every cell.
+    #[tactic(auto, using(crate::proofs::PairCalls::post_and_join_leaves, crate::proofs::PairCalls::pair_known))]
+    pub fn post_and_join(
+        &mut self,
+        relays: Relays,
+        from: usize,
+        to: usize,
+        value: V,
+    ) -> Result<(), LinkFault>
+        ensures answer { result ≡ post_answer self.old.exponent from to self.old.cells.now }
+        ensures cells { self.new.cells.now ≡ post_ground V.ops self.old.exponent (settled relays.word) from to value self.old.cells.now }
+        ensures kept { Kept self.old self.new }
+    {
+        self.post_link(from, to, value)?;
+        self.join_routes(relays, Link { from, to, value });
+        Ok(())
+    }
+
+    // Joins each route with the way over a posted link. The routes that this reads never change on
+    // the way, since a route covers itself chained to anything.
+    #[tactic(auto, using(crate::proofs::JoinedRoutes::joined_none, crate::proofs::JoinedRoutes::joined_more, crate::proofs::JoinedRoutes::joined_all, crate::proofs::JoinedRoutes::pair_at))]
+    fn join_routes(&mut self, relays: Relays, link: Link<V>)
+        requires { Pair self.old.n link.from link.to }
+        ensures cells { self.new.cells.now ≡ join_routes V.ops self.old.n relays.word link.from link.to link.value self.old.cells.now }
+        ensures kept { Kept self.old self.new }
+    {
+        // By index, since a turn reads other routes than the one that it writes.
+        let n = self.n;
+        for p in 0..n * n {
+            self.join_route(relays, link, p / n, p % n);
+        }
+    }
+
+    // Joins the route from a to b, where it may pass on at both ends of the link.
+    fn join_route(&mut self, relays: Relays, link: Link<V>, a: usize, b: usize)
+        requires pair { Pair self.old.n link.from link.to }
+        requires route { Pair self.old.n a b }
+        ensures cells { self.new.cells.now ≡ join_route V.ops self.old.n relays.word link.from link.to link.value a b self.old.cells.now }
+        ensures kept { Kept self.old self.new }
+    {
+        if meets(relays, link.from, a) && meets(relays, link.to, b) {
+            let way = self.way(link, a, b);
+            let at = self.route_place(a, b);
+            self.cells[at] = self.cells[at].join(way);
+        }
+    }
+
+    // The way from a to b over a posted link.
+    fn way(&self, link: Link<V>, a: usize, b: usize) -> V
+        requires pair { Pair self.now.n link.from link.to }
+        requires route { Pair self.now.n a b }
+        ensures { result ≡ V.ops.chain (V.ops.chain (route_at V.ops self.now.n self.now.cells.now a link.from) link.value) (route_at V.ops self.now.n self.now.cells.now link.to b) }
+    {
+        let first = self.route_at(a, link.from);
+        let last = self.route_at(link.to, b);
+        first.chain(link.value).chain(last)
+    }
 }
 
-/// The route from one site to another, which may be the same.
+/// The route from one site to another, which may be the same, on cells that are only read.
 /// Refused with number 1 for a site not below n.
+#[tactic(auto, using(elimination::proofs::Tables::place_below))]
 pub fn ask_route<V: Kind>(
-    ground: &[V],
+    cells: &[V],
     exponent: u32,
     from: usize,
     to: usize,
 ) -> Result<V, LinkFault>
-    ensures { result ≡ ask_answer V.ops exponent from to ground.now }
+    ensures { result ≡ ask_answer V.ops exponent from to cells.now }
 {
-    let n = sites_on(exponent, ground.len());
-    if (from < n) & (to < n) {
-        Ok(route_at(ground, n, from, to))
-    } else {
-        Err(LinkFault::SiteOutside)
+    let n = sites_on(exponent, cells.len());
+    if from >= n || to >= n {
+        return Err(LinkFault::SiteOutside);
     }
-}
-
-/// Joins a value to the link from one site to another, and each route from a to b with the chain of
-/// route a to `from`, the value, and route `to` to b, where a is `from` or `from` is a relay, and b is
-/// `to` or `to` is a relay.
-/// Refused with number 1 for a site not below n, then with number 2 for the same site twice; a
-/// refusal leaves every cell.
-pub fn post_and_join<V: Kind>(
-    ground: &mut [V],
-    exponent: u32,
-    relays: u64,
-    from: usize,
-    to: usize,
-    value: V,
-) -> Result<(), LinkFault>
-    ensures answer { result ≡ post_answer exponent from to ground.old }
-    ensures ground { ground.new ≡ post_ground V.ops exponent (settled relays) from to value ground.old }
-{
-    let n = sites_on(exponent, ground.len());
-    check_pair(n, from, to)?;
-    join_link_and_routes(ground, n, relays, from, to, value);
-    Ok(())
-}
-
-// Joins a value to the link, and then to the routes.
-fn join_link_and_routes<V: Kind>(
-    ground: &mut [V],
-    n: usize,
-    relays: u64,
-    from: usize,
-    to: usize,
-    value: V,
-)
-    requires room { Room n (length ground.old) }
-    requires pair { Pair n from to }
-    ensures { ground.new ≡ join_routes V.ops n relays from to value (slice_set ground.old (place n from to) (V.ops.join (link_at V.ops n ground.old from to) value)) }
-{
-    join_link(ground, n, from, to, value);
-    join_routes(ground, n, relays, from, to, value);
-}
-
-// Joins each route with the way over a value from one site to another. The routes that this reads
-// never change on the way, since a route covers itself chained to anything.
-fn join_routes<V: Kind>(ground: &mut [V], n: usize, relays: u64, from: usize, to: usize, value: V)
-    requires room { Room n (length ground.old) }
-    requires pair { Pair n from to }
-    ensures { ground.new ≡ join_routes V.ops n relays from to value ground.old }
-{
-    for p in 0..n * n {
-        join_route(ground, n, relays, from, to, value, p / n, p % n);
-    }
-}
-
-// Joins the route from a to b, where it may pass on at both ends of the link.
-fn join_route<V: Kind>(
-    ground: &mut [V],
-    n: usize,
-    relays: u64,
-    from: usize,
-    to: usize,
-    value: V,
-    a: usize,
-    b: usize,
-)
-    requires room { Room n (length ground.old) }
-    requires pair { Pair n from to }
-    requires route { Pair n a b }
-    ensures { ground.new ≡ join_route V.ops n relays from to value a b ground.old }
-{
-    if meets(relays, from, a) & meets(relays, to, b) {
-        let route = route_at(ground, n, a, b);
-        let first = route_at(ground, n, a, from);
-        let last = route_at(ground, n, to, b);
-        ground[route_place(n, a, b)] = joined(route, first, value, last);
-    }
+    Ok(cells[n * n + (from * n + to)])
 }
 
 // Whether a route that begins or ends at a may pass on at a site: it is that site, or a relay.
-fn meets(relays: u64, site: usize, a: usize) -> bool
-    requires { site < 64 }
-    ensures { result ≡ meets relays site a }
+fn meets(relays: Relays, site: usize, a: usize) -> bool
+    ensures { result ≡ meets relays.word site a }
 {
-    (a == site) | ((relays >> site) % 2 == 1)
-}
-
-// A route joined with a first part, a value and a last part.
-fn joined<V: Kind>(route: V, first: V, value: V, last: V) -> V
-    ensures { result ≡ V.ops.join route (V.ops.chain (V.ops.chain first value) last) }
-{
-    route.join(first.chain(value).chain(last))
+    a == site || relays.includes(site)
 }

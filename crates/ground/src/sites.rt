@@ -1,31 +1,22 @@
-// The number of sites of a board, and the checks of what a call is given.
-ghost use Rattle.std.specs.Prelude.{◌≡◌, ◌*◌, ◌<◌, ◌≤◌, if◌then◌else◌, OnOk, nat_le};
-ghost use Rattle.orders.specs.Size.{Sites};
+// The size of a board, and whether it fits a ground.
+ghost use Rattle.std.specs.Prelude.{◌≡◌, ◌*◌, ◌^◌, ◌<◌, ◌≤◌, IfOk};
+ghost use Rattle.std.specs.Result.{result_map_both};
 ghost use Rattle.paths.specs.Ground.{sites_on};
-ghost use Rattle.paths.specs.Calls.{make_answer, pair_answer};
-ghost use Rattle.ground.specs.Cells.{Room, Pair};
+ghost use Rattle.paths.specs.Calls.{make_answer};
+ghost use Rattle.ground.specs.Cells.{Room};
 
-use faults::{LayoutFault, LinkFault};
-use orders::size::site_count;
+use faults::LayoutFault;
+use orders::size::Size;
 
 // The number of sites of a board on a ground of so many cells, 0 where they do not fit.
+#[tactic(auto, using(crate::proofs::NumberOfSites::sites_fitting, crate::proofs::NumberOfSites::sites_refused))]
 pub(crate) fn sites_on(exponent: u32, cells: usize) -> usize
     ensures sites { result ≡ sites_on exponent cells }
     ensures room { Room result cells }
-    ensures power { 0 < result → Sites exponent result }
+    ensures power { 0 < result → result ≡ 2 ^ exponent }
+    ensures small { 0 < result → exponent ≤ 6 }
 {
-    match site_count(exponent) {
-        Ok(n) => sites_that_fit(n, cells),
-        Err(_) => 0,
-    }
-}
-
-// n, if n sites fit a ground of so many cells, else 0.
-fn sites_that_fit(n: usize, cells: usize) -> usize
-    requires { n ≤ 64 }
-    ensures { result ≡ (if nat_le (2 * (n * n)) cells then n else 0) }
-{
-    if 2 * (n * n) <= cells { n } else { 0 }
+    size_on(exponent, cells).map_or(0, Size::sites)
 }
 
 /// Whether a board of 2^exponent sites may be laid on a ground of so many cells.
@@ -33,25 +24,19 @@ fn sites_that_fit(n: usize, cells: usize) -> usize
 pub fn check_layout(exponent: u32, cells: usize) -> Result<(), LayoutFault>
     ensures { result ≡ make_answer exponent cells }
 {
-    let n = site_count(exponent)?;
-    if cells < 2 * (n * n) {
-        return Err(LayoutFault::SizeMismatch);
-    }
+    size_on(exponent, cells)?;
     Ok(())
 }
 
-// Whether a link may stand between two sites.
-pub(crate) fn check_pair(n: usize, from: usize, to: usize) -> Result<(), LinkFault>
-    ensures answer { result ≡ pair_answer n from to }
-    ensures pair { OnOk result (Pair n from to) }
+// The size of a board on a ground of so many cells, if it may be laid there.
+fn size_on(exponent: u32, cells: usize) -> Result<Size, LayoutFault>
+    ensures answer { result_map_both (λ _. tt) (λ e. e) result ≡ make_answer exponent cells }
+    ensures same { IfOk result (λ s. s.exponent ≡ exponent) }
+    ensures room { IfOk result (λ s. 2 * (2 ^ s.exponent * 2 ^ s.exponent) ≤ cells) }
 {
-    if (from < n) & (to < n) {
-        if from == to {
-            Err(LinkFault::SameSite)
-        } else {
-            Ok(())
-        }
-    } else {
-        Err(LinkFault::SiteOutside)
+    let size = Size::new(exponent)?;
+    if cells < 2 * size.cells() {
+        return Err(LayoutFault::SizeMismatch);
     }
+    Ok(size)
 }

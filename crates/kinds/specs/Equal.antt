@@ -35,7 +35,8 @@ pub fare_equal : (x y : Fare) → x.cost ≡ y.cost → x.hops ≡ y.hops → x 
 fare_equal x y d e = λ i. record {
   cost = d i;
   hops = e i;
-  fits = (fits_equal d x.fits.0 y.fits.0 i, fits_equal e x.fits.1 y.fits.1 i);
+  cost_fits = fits_equal d x.cost_fits y.cost_fits i;
+  hops_fits = fits_equal e x.hops_fits y.hops_fits i;
 }
 
 pub pair_equal : (x y : WidestCheapest) → x.width.value ≡ y.width.value → x.cost.value ≡ y.cost.value → x ≡ y

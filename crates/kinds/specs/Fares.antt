@@ -5,7 +5,7 @@ use Rattle.kinds.specs.Kind.{Ops}
 use Rattle.kinds.specs.declared.cells.Fare.{Fare}
 
 abbrev pub fare : (c h : ℕ) → (c < 2 ^ 32) × (h < 2 ^ 32) → Fare
-fare c h f = record { cost = c; hops = h; fits = f }
+fare c h f = record { cost = c; hops = h; cost_fits = f.0; hops_fits = f.1 }
 
 abbrev pub fare_none : Fare
 fare_none = fare 4294967295 4294967295 (omega arith, omega arith)

@@ -1,43 +1,21 @@
 -- Unions and intersections of sets of bits: both associate, and the intersection goes into a union. Assumes nothing.
-use Rattle.std.specs.Prelude.{◌≡◌, ℕ, ◌/◌, ◌%◌, ◌^◌, ◌<◌, min, max, bit_and, bit_or, refl}
-use Rattle.std.proofs.Common.{ap₂, ◌∙◌, mod-eq_of_lt, arith}
-use Rattle.std.proofs.Math.Arith.{bin_ind}
-use Rattle.std.specs.Int.Bits.{and_step, or_step, or_add_and}
-use Rattle.std.proofs.lemmas.Nat.{and_shr, or_shr, and_comm, and_mask}
-
--- a number is known by its half and its last bit
-by_bits : (a b : ℕ) → a / 2 ≡ b / 2 → a % 2 ≡ b % 2 → a ≡ b
-by_bits a b h l = omega arith
-
-and_half : (a b : ℕ) → bit_and a b / 2 ≡ bit_and (a / 2) (b / 2)
-and_half a b = and_shr a b 1
-
-or_half : (a b : ℕ) → bit_or a b / 2 ≡ bit_or (a / 2) (b / 2)
-or_half a b = or_shr a b 1
-
-and_last : (a b : ℕ) → bit_and a b % 2 ≡ min (a % 2) (b % 2)
-and_last a b = omega (arith, and_step a b)
-
-or_last : (a b : ℕ) → bit_or a b % 2 ≡ max (a % 2) (b % 2)
-or_last a b = omega (arith, or_step a b)
+use Rattle.std.specs.Prelude.{◌≡◌, ℕ, ◌^◌, ◌<◌, bit_and, bit_or}
+use Rattle.std.proofs.Common.{◌∙◌, mod-eq_of_lt, arith}
+use Rattle.std.specs.Int.Bits.{or_add_and}
+use Rattle.std.proofs.lemmas.Nat.{and_comm, and_mask}
+use Rattle.std.proofs.lemmas.Nat.Bits.{same_from_bits, bit_at_and, bit_at_or}
 
 pub and_assoc : (a b c : ℕ) → bit_and (bit_and a b) c ≡ bit_and a (bit_and b c)
-and_assoc =
-    bin_ind (λ (n : ℕ). (b c : ℕ) → bit_and (bit_and n b) c ≡ bit_and n (bit_and b c)) (λ b c. refl)
-    (λ n ih b c. by_bits _ _ (simp and_half (ih (b / 2) (c / 2))) (simp and_last (omega arith)))
+and_assoc a b c = same_from_bits _ _ (λ i. simp bit_at_and (omega arith))
 
 pub or_assoc : (a b c : ℕ) → bit_or (bit_or a b) c ≡ bit_or a (bit_or b c)
-or_assoc =
-    bin_ind (λ (n : ℕ). (b c : ℕ) → bit_or (bit_or n b) c ≡ bit_or n (bit_or b c)) (λ b c. refl)
-    (λ n ih b c. by_bits _ _ (simp or_half (ih (b / 2) (c / 2))) (simp or_last (omega arith)))
+or_assoc a b c = same_from_bits _ _ (λ i. simp bit_at_or (omega arith))
 
 pub and_or : (a b c : ℕ) → bit_and a (bit_or b c) ≡ bit_or (bit_and a b) (bit_and a c)
-and_or =
-    bin_ind (λ (n : ℕ). (b c : ℕ) → bit_and n (bit_or b c) ≡ bit_or (bit_and n b) (bit_and n c)) (λ b c. refl)
-    (λ n ih b c. by_bits _ _ (simp (and_half, or_half) (ih (b / 2) (c / 2))) (simp (and_last, or_last) (omega arith)))
+and_or a b c = same_from_bits _ _ (λ i. simp (bit_at_and, bit_at_or) (omega arith))
 
 pub or_and : (a b c : ℕ) → bit_and (bit_or a b) c ≡ bit_or (bit_and a c) (bit_and b c)
-or_and a b c = and_comm (bit_or a b) c ∙ and_or c a b ∙ ap₂ bit_or (and_comm c a) (and_comm c b)
+or_and a b c = same_from_bits _ _ (λ i. simp (bit_at_and, bit_at_or) (omega arith))
 
 -- 2 ^ 64 - 1 is the full set
 pub and_full : (a : ℕ) → a < 2 ^ 64 → bit_and a 18446744073709551615 ≡ a

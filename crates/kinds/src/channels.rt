@@ -1,5 +1,5 @@
 // Channels: a join has those of either route, a chain those that both have.
-ghost use Rattle.std.specs.Prelude.{◌≡◌};
+ghost use Rattle.std.specs.Prelude.{◌≡◌, refl};
 ghost use Rattle.kinds.specs.ChannelSets.{channel_sets};
 ghost use Rattle.kinds.specs.ChannelSetsLemmas.{channel_sets_lawful};
 
@@ -8,16 +8,10 @@ use crate::kind::Kind;
 
 impl Channels {
     /// The channels whose bits are set.
+    #[tactic(auto, using(crate::specs::Equal::channels_equal))]
     pub fn new(set: u64) -> Channels
         ensures set { result.set ≡ set }
         ensures only { (x : Channels) → x.set ≡ set → result ≡ x }
-    {
-        Channels::of_set(set)
-    }
-
-    // The cell itself; `new` also says that it is the only one.
-    fn of_set(set: u64) -> Channels
-        ensures { result.set ≡ set }
     {
         Channels { set }
     }
@@ -27,6 +21,8 @@ impl Kind for Channels {
     ghost ops = { channel_sets };
 
     ghost lawful = { channel_sets_lawful };
+
+    ghost eq_is_same = { λ a b. refl };
 
     fn join(self, other: Channels) -> Channels {
         Channels::new(self.set | other.set)
@@ -41,10 +37,6 @@ impl Kind for Channels {
     }
 
     fn here() -> Channels {
-        Channels::new(18446744073709551615)
-    }
-
-    fn equals(self, other: Channels) -> bool {
-        self.set == other.set
+        Channels::new(u64::MAX)
     }
 }

@@ -1,23 +1,19 @@
 // Costs: the smaller is the better, and 4294967295 is none.
-ghost use Rattle.std.specs.Prelude.{◌≡◌};
+ghost use Rattle.std.specs.Prelude.{◌≡◌, refl, Some, cond, ◌==◌, codes, decimal};
+ghost use Rattle.std.specs.Fmt.{styled_text, styled_decimal};
 ghost use Rattle.kinds.specs.Costs.{costs};
 ghost use Rattle.kinds.specs.CostsLemmas.{costs_lawful};
 
 use crate::cells::Cost;
 use crate::kind::Kind;
+use std::fmt;
 
 impl Cost {
     /// The cost of this value.
+    #[tactic(auto, using(crate::specs::Equal::cost_equal))]
     pub fn new(value: u32) -> Cost
         ensures value { result.value ≡ value }
         ensures only { (x : Cost) → x.value ≡ value → result ≡ x }
-    {
-        Cost::of_value(value)
-    }
-
-    // The cell itself; `new` also says that it is the only one.
-    fn of_value(value: u32) -> Cost
-        ensures { result.value ≡ value }
     {
         Cost { value }
     }
@@ -28,8 +24,10 @@ impl Kind for Cost {
 
     ghost lawful = { costs_lawful };
 
+    ghost eq_is_same = { λ a b. refl };
+
     fn join(self, other: Cost) -> Cost {
-        Cost::new(self.value.min(other.value))
+        self.min(other)
     }
 
     fn chain(self, other: Cost) -> Cost {
@@ -37,14 +35,25 @@ impl Kind for Cost {
     }
 
     fn none() -> Cost {
-        Cost::new(4294967295)
+        Cost::new(u32::MAX)
     }
 
     fn here() -> Cost {
         Cost::new(0)
     }
+}
 
-    fn equals(self, other: Cost) -> bool {
-        self.value == other.value
+// None is shown as `-`, and any other cost as its number, at the width that is asked for.
+impl fmt::Display for Cost {
+    ghost output = { λ c. Some (cond (c.value == 4294967295) (codes "-") (decimal c.value)) };
+
+    ghost styled_output = { λ c s. Some (cond (c.value == 4294967295) (styled_text s (codes "-")) (styled_decimal s c.value)) };
+
+    fn fmt<W: fmt::Write>(&self, f: &mut fmt::Formatter<W>) -> fmt::Result {
+        if *self == Cost::none() {
+            f.pad("-")
+        } else {
+            self.value.fmt(f)
+        }
     }
 }

@@ -12,12 +12,5 @@ pub fn covers<V: Kind>(a: V, b: V) -> bool
     ensures decides { Decides result (Covers V.ops a b) }
     ensures order { Covering V.ops }
 {
-    join_is_first(a, b)
-}
-
-// Whether the join of `a` and `b` is `a`.
-fn join_is_first<V: Kind>(a: V, b: V) -> bool
-    ensures { result ≡ V.ops.same (V.ops.join a b) a }
-{
-    a.join(b).equals(a)
+    a.join(b) == a
 }

@@ -1,6 +1,6 @@
 // Fares: the smaller cost is the better, and at one cost the fewer hops.
-ghost use Rattle.std.specs.Prelude.{◌≡◌};
-ghost use Rattle.kinds.specs.Fares.{fares, fare_sum, fare_total, is_here, no_dearer};
+ghost use Rattle.std.specs.Prelude.{◌≡◌, refl};
+ghost use Rattle.kinds.specs.Fares.{fares, fare_sum, fare_total};
 ghost use Rattle.kinds.specs.FaresLemmas.{fares_lawful};
 
 use crate::cells::Fare;
@@ -8,37 +8,13 @@ use crate::kind::Kind;
 
 impl Fare {
     /// The fare of this cost and these hops.
+    #[tactic(auto, using(crate::specs::Equal::fare_equal))]
     pub fn new(cost: u32, hops: u32) -> Fare
         ensures cost { result.cost ≡ cost }
         ensures hops { result.hops ≡ hops }
-        ensures only { (x : Fare) → (x.cost ≡ cost) × (x.hops ≡ hops) → result ≡ x }
-    {
-        Fare::of_parts(cost, hops)
-    }
-
-    // The cell itself; `new` also says that it is the only one.
-    fn of_parts(cost: u32, hops: u32) -> Fare
-        ensures { (result.cost ≡ cost) × (result.hops ≡ hops) }
+        ensures only { (x : Fare) → x.cost ≡ cost → x.hops ≡ hops → result ≡ x }
     {
         Fare { cost, hops }
-    }
-
-    // Whether this is here, cost 0 over 0 hops.
-    fn is_here(self) -> bool
-        ensures { result ≡ is_here self }
-    {
-        (self.cost == 0) & (self.hops == 0)
-    }
-
-    // Whether this is the cheaper, or as cheap with no more hops.
-    fn is_no_dearer(self, other: Fare) -> bool
-        ensures { result ≡ no_dearer self other }
-    {
-        if self.cost == other.cost {
-            self.hops <= other.hops
-        } else {
-            self.cost < other.cost
-        }
     }
 
     // Both costs and both hops, each at most 4294967295.
@@ -55,10 +31,11 @@ impl Fare {
     fn sum(self, other: Fare) -> Fare
         ensures { result ≡ fare_sum self other }
     {
-        if self.cost as u64 + other.cost as u64 >= 4294967295 {
+        let total = self.total(other);
+        if total.cost == u32::MAX {
             Fare::none()
         } else {
-            self.total(other)
+            total
         }
     }
 }
@@ -68,18 +45,16 @@ impl Kind for Fare {
 
     ghost lawful = { fares_lawful };
 
+    ghost eq_is_same = { λ a b. refl };
+
     fn join(self, other: Fare) -> Fare {
-        if self.is_no_dearer(other) {
-            self
-        } else {
-            other
-        }
+        self.min(other)
     }
 
     fn chain(self, other: Fare) -> Fare {
-        if self.is_here() {
+        if self == Fare::here() {
             other
-        } else if other.is_here() {
+        } else if other == Fare::here() {
             self
         } else {
             self.sum(other)
@@ -87,14 +62,10 @@ impl Kind for Fare {
     }
 
     fn none() -> Fare {
-        Fare::new(4294967295, 4294967295)
+        Fare::new(u32::MAX, u32::MAX)
     }
 
     fn here() -> Fare {
         Fare::new(0, 0)
-    }
-
-    fn equals(self, other: Fare) -> bool {
-        (self.cost == other.cost) & (self.hops == other.hops)
     }
 }

@@ -1,10 +1,11 @@
-// What a value kind is: a join, a chain, a none and a here that keep the laws, and a test for equality.
+// What a value kind is: a join, a chain, a none and a here that keep the laws. `==` tells whether two
+// values are equal.
 ghost use Rattle.std.specs.Prelude.{◌≡◌};
 ghost use Rattle.kinds.specs.Kind.{Ops, Laws};
 
 /// A type of values that routes are measured by. Its calls answer by `ops`, refuse nothing and
 /// alter nothing.
-pub trait Kind: Copy {
+pub trait Kind: Copy + Eq {
     // What the calls answer.
     ghost ops: { Ops Self };
 
@@ -24,10 +25,9 @@ pub trait Kind: Copy {
     fn here() -> Self
         ensures { result ≡ ops.here };
 
-    /// Whether two values are equal.
-    fn equals(self, other: Self) -> bool
-        ensures { result ≡ ops.same self other };
-
     // What each kind shows, for all values.
     ghost lawful: { Laws ops };
+
+    // `==` answers by the operations' test for equality.
+    ghost eq_is_same: { (a b : Self) → Self.eq a b ≡ ops.same a b };
 }

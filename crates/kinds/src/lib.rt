@@ -1,5 +1,5 @@
 // Value kinds: what the route tables of a mirror network are filled over.
-// A kind (`kind`) has a join, a chain, a none and a here, and tells whether two values are equal;
+// A kind (`kind`) has a join, a chain, a none and a here, and `==` tells whether two values are equal;
 // its laws hold for all values. Costs, widths, channels and fares are kinds, and so are any two
 // kinds side by side; `cells` has their types. `covers` tells whether one value makes another
 // needless: an order in every kind, which join and chain respect. `widest` is a choice that looks

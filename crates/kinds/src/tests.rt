@@ -3,6 +3,7 @@ use crate::cells::*;
 use crate::covers::covers;
 use crate::kind::Kind;
 use crate::widest::{WidestCheapest, distributive_sides};
+use std::alloc::AllocError;
 
 #[test]
 fn costs_add_up_to_none(rt: HostRuntime) {
@@ -10,6 +11,17 @@ fn costs_add_up_to_none(rt: HostRuntime) {
     assert_eq!(rt; dear.chain(Cost::new(1)), Cost::none());
     assert_eq!(rt; dear.chain(Cost::here()).value, 4294967294);
     assert_eq!(rt; dear.join(Cost::new(7)).value, 7);
+}
+
+#[test]
+fn costs_show_at_a_width(rt: HostRuntime) -> Result<(), AllocError> {
+    let alloc = rt.alloc();
+    let (cost, none) = (Cost::new(13), Cost::none());
+    let costs = format!(in alloc; "[{cost:>8}] [{cost:<4}] [{cost}]")?;
+    assert_eq!(rt; costs.as_str(), "[      13] [13  ] [13]");
+    let nones = format!(in alloc; "[{none:>8}] [{none:<4}] [{none}]")?;
+    assert_eq!(rt; nones.as_str(), "[       -] [-   ] [-]");
+    Ok(())
 }
 
 #[test]
@@ -25,7 +37,7 @@ fn channels_unite_and_intersect(rt: HostRuntime) {
     let (a, b) = (Channels::new(0b0110), Channels::new(0b0011));
     assert_eq!(rt; a.join(b).set, 0b0111);
     assert_eq!(rt; a.chain(b).set, 0b0010);
-    assert!(rt; a.chain(Channels::here()).equals(a));
+    assert_eq!(rt; a.chain(Channels::here()), a);
 }
 
 #[test]
@@ -50,17 +62,19 @@ fn pairs_go_part_by_part(rt: HostRuntime) {
         left: Cost::new(1),
         right: Width::new(2),
     };
-    assert!(rt;
-        a.join(b).equals(Beside {
+    assert_eq!(rt;
+        a.join(b),
+        Beside {
             left: Cost::new(1),
             right: Width::new(9),
-        })
+        }
     );
-    assert!(rt;
-        a.chain(b).equals(Beside {
+    assert_eq!(rt;
+        a.chain(b),
+        Beside {
             left: Cost::new(5),
             right: Width::new(2),
-        })
+        }
     );
 }
 

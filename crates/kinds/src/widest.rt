@@ -5,6 +5,7 @@ ghost use Rattle.kinds.specs.Widest.{preferred, chained, wide_route, narrow_rout
 
 use crate::cells::{Cost, Width};
 use crate::kind::Kind;
+use std::cmp::Reverse;
 
 /// A width, and a cost that counts only among equal widths.
 #[derive(Clone, Copy, PartialEq, Eq, Debug)]
@@ -15,17 +16,11 @@ pub struct WidestCheapest {
 
 impl WidestCheapest {
     /// The value of this width and this cost.
+    #[tactic(auto, using(crate::specs::Equal::pair_equal))]
     pub fn new(width: u32, cost: u32) -> WidestCheapest
         ensures width { result.width.value ≡ width }
         ensures cost { result.cost.value ≡ cost }
-        ensures only { (x : WidestCheapest) → (x.width.value ≡ width) × (x.cost.value ≡ cost) → result ≡ x }
-    {
-        WidestCheapest::of_parts(width, cost)
-    }
-
-    // The cell itself; `new` also says that it is the only one.
-    fn of_parts(width: u32, cost: u32) -> WidestCheapest
-        ensures { (result.width.value ≡ width) × (result.cost.value ≡ cost) }
+        ensures only { (x : WidestCheapest) → x.width.value ≡ width → x.cost.value ≡ cost → result ≡ x }
     {
         WidestCheapest {
             width: Width::new(width),
@@ -37,13 +32,7 @@ impl WidestCheapest {
     pub fn prefer(self, other: WidestCheapest) -> WidestCheapest
         ensures { result ≡ preferred self other }
     {
-        if self.width.value == other.width.value {
-            if self.cost.value <= other.cost.value {
-                self
-            } else {
-                other
-            }
-        } else if other.width.value < self.width.value {
+        if (self.width, Reverse(self.cost)) >= (other.width, Reverse(other.cost)) {
             self
         } else {
             other
@@ -64,15 +53,27 @@ impl WidestCheapest {
 /// The two sides of the distributive law at (10, 9), (5, 1) and (5, 0), which differ: the preferred
 /// of the first two chained with the third, and the preferred of both when chained with the third.
 /// So this choice is no kind.
+#[tactic(auto, using(crate::specs::Equal::pair_equal, crate::proofs::NoKind::no_kind))]
 pub fn distributive_sides() -> (WidestCheapest, WidestCheapest)
     ensures first { result.0 ≡ chained (preferred wide_route narrow_route) shared_link }
     ensures second { result.1 ≡ preferred (chained wide_route shared_link) (chained narrow_route shared_link) }
-    ensures numbers { (result.0.width.value ≡ 5) × (result.0.cost.value ≡ 9) × (result.1.width.value ≡ 5) × (result.1.cost.value ≡ 1) }
+    ensures first_width { result.0.width.value ≡ 5 }
+    ensures first_cost { result.0.cost.value ≡ 9 }
+    ensures second_width { result.1.width.value ≡ 5 }
+    ensures second_cost { result.1.cost.value ≡ 1 }
     ensures impossible { NoKind }
 {
-    let (a, b, c) = (wide_route(), narrow_route(), shared_link());
-    (preferred_first(a, b, c), chained_first(a, b, c))
+    // The wide route is preferred to the narrow one, until both go over the shared link.
+    let wide = WidestCheapest::new(10, 9);
+    let narrow = WidestCheapest::new(5, 1);
+    let shared = WidestCheapest::new(5, 0);
+    (
+        preferred_first(wide, narrow, shared),
+        chained_first(wide, narrow, shared),
+    )
 }
+
+// Functions of any three values, since a wrong side can have the same numbers at those above.
 
 // The left side of the distributive law.
 fn preferred_first(a: WidestCheapest, b: WidestCheapest, c: WidestCheapest) -> WidestCheapest
@@ -86,25 +87,4 @@ fn chained_first(a: WidestCheapest, b: WidestCheapest, c: WidestCheapest) -> Wid
     ensures { result ≡ preferred (chained a c) (chained b c) }
 {
     a.chain(c).prefer(b.chain(c))
-}
-
-// (10, 9), which is preferred to (5, 1).
-fn wide_route() -> WidestCheapest
-    ensures { result ≡ wide_route }
-{
-    WidestCheapest::new(10, 9)
-}
-
-// (5, 1), which is preferred once both are chained with (5, 0).
-fn narrow_route() -> WidestCheapest
-    ensures { result ≡ narrow_route }
-{
-    WidestCheapest::new(5, 1)
-}
-
-// (5, 0), which no route passes at a larger width.
-fn shared_link() -> WidestCheapest
-    ensures { result ≡ shared_link }
-{
-    WidestCheapest::new(5, 0)
 }

@@ -1,5 +1,5 @@
 // Widths: the larger is the better, and a chain is as wide as its narrower part.
-ghost use Rattle.std.specs.Prelude.{◌≡◌};
+ghost use Rattle.std.specs.Prelude.{◌≡◌, refl};
 ghost use Rattle.kinds.specs.Widths.{widths};
 ghost use Rattle.kinds.specs.WidthsLemmas.{widths_lawful};
 
@@ -8,16 +8,10 @@ use crate::kind::Kind;
 
 impl Width {
     /// The width of this value.
+    #[tactic(auto, using(crate::specs::Equal::width_equal))]
     pub fn new(value: u32) -> Width
         ensures value { result.value ≡ value }
         ensures only { (x : Width) → x.value ≡ value → result ≡ x }
-    {
-        Width::of_value(value)
-    }
-
-    // The cell itself; `new` also says that it is the only one.
-    fn of_value(value: u32) -> Width
-        ensures { result.value ≡ value }
     {
         Width { value }
     }
@@ -28,12 +22,14 @@ impl Kind for Width {
 
     ghost lawful = { widths_lawful };
 
+    ghost eq_is_same = { λ a b. refl };
+
     fn join(self, other: Width) -> Width {
-        Width::new(self.value.max(other.value))
+        self.max(other)
     }
 
     fn chain(self, other: Width) -> Width {
-        Width::new(self.value.min(other.value))
+        self.min(other)
     }
 
     fn none() -> Width {
@@ -41,10 +37,6 @@ impl Kind for Width {
     }
 
     fn here() -> Width {
-        Width::new(4294967295)
-    }
-
-    fn equals(self, other: Width) -> bool {
-        self.value == other.value
+        Width::new(u32::MAX)
     }
 }

@@ -1,7 +1,11 @@
--- The laws of writing a part of a list. Assumes nothing.
-use Rattle.std.proofs.Common.{◌≡◌, ℕ, ◌+◌, ◌-◌, ◌<◌, ◌≤◌, List, [], ◌∷◌, ◌++◌, length, take, drop, set, sym, refl, ap, ◌∙◌, subst, arith}
+-- The laws of writing a part of a list, and what they say of the codes of a whole table. Assumes nothing.
+use Rattle.std.proofs.Common.{◌≡◌, ℕ, ◌+◌, ◌-◌, ◌^◌, ◌<◌, ◌≤◌, List, [], ◌∷◌, ◌++◌, length, take, drop, set, sym, refl, ap, ◌∙◌, subst, zero-add, arith}
 use Rattle.std.proofs.lemmas.List.{append-nil, append_assoc, take-append-drop, take_more_set, drop-set-lt, drop-drop}
-use Rattle.orders.specs.Writing.{Wrote}
+use Rattle.orders.specs.Order.{step_count}
+use Rattle.orders.specs.Lawful.{step_of}
+use Rattle.orders.specs.Codes.{step_codes}
+use Rattle.orders.specs.Writing.{block_codes, Wrote}
+use Rattle.orders.proofs.BlockCodes.{block_codes_all}
 
 pub wrote_none : (a : ℕ) (xs : List ℕ) → Wrote a a [] xs xs
 wrote_none a xs = record { front = sym (append-nil (take a xs)); rest = refl }
@@ -25,3 +29,7 @@ wrote_same {a} {b} {e} {cs} {ds} {xs} {ys} p q w = subst (λ m. Wrote a m ds xs 
 -- from the start of the list
 pub wrote_all : {b : ℕ} {cs xs ys : List ℕ} → Wrote 0 b cs xs ys → ys ≡ cs ++ drop b xs
 wrote_all {b} {cs} {xs} {ys} w = sym (take-append-drop b ys) ∙ ap (λ l. l ++ drop b ys) w.front ∙ ap (λ l. cs ++ l) w.rest
+
+-- the whole table, written from the start of a list
+pub table_written : (q : ℕ) {xs ys : List ℕ} → Wrote 0 (0 + step_count (2 ^ q)) (block_codes q (step_of 0 0 0) (step_count (2 ^ q))) xs ys → ys ≡ step_codes q ++ drop (step_count (2 ^ q)) xs
+table_written q {xs} {ys} w = wrote_all (wrote_same (zero-add (step_count (2 ^ q))) (block_codes_all q) w)

@@ -1,9 +1,9 @@
 -- The laws of the recursive order: it has the pivots first for every exponent, and its highest digit names a quarter of the table. Assumes nothing.
 use Rattle.std.specs.Prelude.{◌≡◌, ℕ, zero, suc, ◌+◌, ◌-◌, ◌*◌, ◌/◌, ◌%◌, ◌^◌, ◌<◌, ◌≤◌}
 use Rattle.std.proofs.Common.{sym, ap, subst, ◌∙◌, pow-suc, add-mul, mul_assoc, arith, lit<}
-use Rattle.std.proofs.Math.Nat.{pow-le-pow_right}
 use Rattle.std.proofs.lemmas.Nat.{shr-shr}
 use Rattle.orders.specs.declared.step.Step.{Step}
+use Rattle.orders.specs.Size.{sites_most}
 use Rattle.orders.specs.Order.{step_count}
 use Rattle.orders.specs.Lawful.{step_of, Within, Lawful}
 use Rattle.orders.specs.RecursiveOrder.{flipped, digit_step, placed, recursive_at}
@@ -78,7 +78,7 @@ recursive_within (suc q) t =
 pub recursive_small : (q t : ℕ) → q ≤ 6 → Within 64 (recursive_at q t)
 recursive_small q t small =
     let w = recursive_within q t in
-    let most : 2 ^ q ≤ 2 ^ 6 = pow-le-pow_right (lit< tt) small in
+    let most = sites_most q small in
     record { row = omega arith; column = omega arith; pivot = omega arith }
 
 -- reading the digits from the highest: the step by the digits from `level` up, and one digit more

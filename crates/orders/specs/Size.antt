@@ -1,5 +1,7 @@
 -- Which exponents are allowed, and how many sites one gives. Assumes nothing.
 use Rattle.std.specs.Prelude.{◌≡◌, ℕ, ◌^◌, ◌<◌, ◌≤◌, cond, Ok, Err, Result, nat_le}
+use Rattle.std.proofs.Common.{lit<}
+use Rattle.std.proofs.Math.Nat.{pow-le-pow_right}
 use Rattle.faults.specs.declared.LayoutFault.{LayoutFault}
 use Rattle.faults.specs.declared.LayoutFault.TheVariants.{ExponentTooLarge}
 
@@ -21,3 +23,7 @@ pub record Sites (q n : ℕ) : Type 0 where
   pub positive : 0 < n
   pub most : n ≤ 64
   pub small : q ≤ 6
+
+-- an exponent that is allowed gives at most 64 sites
+pub sites_most : (q : ℕ) → q ≤ 6 → 2 ^ q ≤ 64
+sites_most q small = pow-le-pow_right {n = 2} (lit< tt) small

@@ -1,4 +1,4 @@
--- What the recursion that writes the codes does to a part of a list. Assumes nothing.
+-- What the recursion that writes the codes writes, and where it may stand. Assumes nothing.
 use Rattle.std.specs.Prelude.{◌≡◌, ℕ, ◌+◌, ◌^◌, ◌≤◌, List, ◌++◌, map, take, drop}
 use Rattle.std.specs.List.{range_with_len}
 use Rattle.orders.specs.declared.step.Step.{Step}

@@ -1,63 +1,58 @@
-ghost use Rattle.std.specs.Prelude.{◌≡◌, ◌^◌, ◌<◌, ◌≤◌};
+// The order of the triple loop.
+ghost use Rattle.std.specs.Prelude.{◌≡◌, ◌^◌};
 ghost use Rattle.std.specs.Result.{result_map_both};
 ghost use Rattle.orders.specs.Size.{exponent_answer};
 ghost use Rattle.orders.specs.LoopOrder.{loop_at};
 ghost use Rattle.orders.specs.LoopLaws.{loop_lawful};
 
 use crate::order::Order;
-use crate::size::two_to;
+use crate::size::Size;
 use crate::step::Step;
 use faults::LayoutFault;
 
+// Two order types, each a list of its own, so `new`, `size` and `step` stand in both: a generic type
+// would be no plainer.
 /// The order of the triple loop: k, then i, then j ascending.
 #[derive(Clone, Copy, PartialEq, Eq, Debug)]
 pub struct LoopOrder {
-    exponent: u32,
-    ghost small: { exponent ≤ 6 },
+    size: Size,
 }
 
 impl LoopOrder {
     /// The loop order of 2^exponent sites.
     /// Refused with number 4 above 6.
     pub fn new(exponent: u32) -> Result<LoopOrder, LayoutFault>
-        ensures { result_map_both (λ o. o.exponent) (λ e. e) result ≡ exponent_answer exponent }
+        ensures { result_map_both (λ o. o.size.exponent) (λ e. e) result ≡ exponent_answer exponent }
     {
-        if exponent <= 6 {
-            Ok(LoopOrder { exponent })
-        } else {
-            Err(LayoutFault::ExponentTooLarge)
-        }
+        Ok(LoopOrder {
+            size: Size::new(exponent)?,
+        })
     }
 }
 
 impl Order for LoopOrder {
-    ghost log = { λ o. o.exponent };
+    ghost log = { λ o. o.size.exponent };
 
-    ghost at = { λ o. loop_at (2 ^ o.exponent) };
+    ghost at = { λ o. loop_at (2 ^ o.size.exponent) };
 
-    ghost small = { λ o. o.small };
+    ghost small = { λ o. o.size.small };
 
-    ghost lawful = { λ o. loop_lawful (2 ^ o.exponent) };
+    ghost lawful = { λ o. loop_lawful (2 ^ o.size.exponent) };
 
-    fn exponent(&self) -> u32 {
-        self.exponent
+    fn size(&self) -> Size {
+        self.size
     }
 
     fn step(&self, t: usize) -> Option<Step> {
-        let n = two_to(self.exponent);
-        if t < n * n * n {
-            Some(loop_step(n, t))
-        } else {
-            None
-        }
+        (t < self.size.steps()).then(|| loop_step(self.size, t))
     }
 }
 
-// Step t of the loop over n sites.
-fn loop_step(n: usize, t: usize) -> Step
-    requires { (0 < n) × (n ≤ 64) }
-    ensures { result ≡ loop_at n t }
+// Step t of the loop.
+fn loop_step(size: Size, t: usize) -> Step
+    ensures { result ≡ loop_at (2 ^ size.exponent) t }
 {
+    let n = size.sites();
     Step {
         i: t / n % n,
         j: t % n,

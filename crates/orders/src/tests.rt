@@ -3,17 +3,19 @@ use crate::codes::write_step_codes;
 use crate::loop_order::LoopOrder;
 use crate::order::Order;
 use crate::recursive_order::RecursiveOrder;
-use crate::size::site_count;
+use crate::size::{Size, site_count};
 use crate::step::Step;
 use faults::LayoutFault;
 use std::test::Fail;
 
-// The number of a refusal, 0 for none.
-fn refusal<T: Drop>(r: Result<T, LayoutFault>) -> u8 {
-    match r {
-        Ok(_) => 0,
-        Err(fault) => fault.number(),
-    }
+#[test]
+fn sizes(rt: HostRuntime) -> Result<(), Fail> {
+    let size = Size::new(3)?;
+    assert_eq!(rt; size.exponent(), 3);
+    assert_eq!(rt; size.sites(), 8);
+    assert_eq!(rt; size.cells(), 64);
+    assert_eq!(rt; size.steps(), 512);
+    Ok(())
 }
 
 #[test]
@@ -33,23 +35,31 @@ fn recursive_steps(rt: HostRuntime) -> Result<(), Fail> {
     assert_eq!(rt; order.step(10), Some(Step { i: 1, j: 2, k: 0 }));
     assert_eq!(rt; order.step(63), Some(Step { i: 0, j: 0, k: 3 }));
     assert_eq!(rt; order.step(64), None);
+    assert_eq!(rt; order.steps().nth(10), order.step(10));
+    assert_eq!(rt; order.steps().count(), 64);
     Ok(())
 }
 
 #[test]
 fn exponent_seven_is_refused(rt: HostRuntime) {
     let mut cells = [9u32; 3];
-    assert_eq!(rt; refusal(site_count(7)), 4);
-    assert_eq!(rt; refusal(LoopOrder::new(7)), 4);
-    assert_eq!(rt; refusal(RecursiveOrder::new(7)), 4);
-    assert_eq!(rt; refusal(write_step_codes(7, &mut cells)), 4);
+    assert_eq!(rt; site_count(7).map_err(LayoutFault::number), Err(4));
+    assert_eq!(rt; LoopOrder::new(7).map_err(LayoutFault::number), Err(4));
+    assert_eq!(rt; RecursiveOrder::new(7).map_err(LayoutFault::number), Err(4));
+    assert_eq!(rt;
+        write_step_codes(7, &mut cells).map_err(LayoutFault::number),
+        Err(4)
+    );
     assert_eq!(rt; cells, [9u32; 3]);
 }
 
 #[test]
 fn short_list_is_refused(rt: HostRuntime) {
     let mut cells = [9u32; 7];
-    assert_eq!(rt; refusal(write_step_codes(1, &mut cells)), 5);
+    assert_eq!(rt;
+        write_step_codes(1, &mut cells).map_err(LayoutFault::number),
+        Err(5)
+    );
     assert_eq!(rt; cells, [9u32; 7]);
 }
 

@@ -5,7 +5,7 @@ use crate::update_set::UpdateSet;
 use orders::step::Step;
 
 /// Every step.
-#[derive(Clone, Copy)]
+#[derive(Clone, Copy, PartialEq, Eq, Debug)]
 pub struct AllSteps;
 
 impl UpdateSet for AllSteps {

@@ -1,17 +1,17 @@
 // The run in place.
-ghost use Rattle.std.specs.Prelude.{◌≡◌, ◌*◌, ◌^◌, ◌≤◌, length, slice_index_or};
+ghost use Rattle.std.specs.Prelude.{◌≡◌, ◌*◌, ◌^◌, ◌<◌, length, slice_index_or};
 ghost use Rattle.orders.specs.Lawful.{Within};
 ghost use Rattle.elimination.specs.Table.{place};
 ghost use Rattle.elimination.specs.Loop.{value_in_place, step_in_place, run_in_place};
 ghost use Rattle.runs.specs.Results.{in_place_answer, in_place_table, loop_answer, loop_table};
 
-use crate::cells::{cell_at, place_of};
+use crate::places::{check_size, place_of};
 use crate::rule::Rule;
-use crate::steps::{sites, step_at};
 use crate::update_set::UpdateSet;
 use faults::LayoutFault;
 use orders::loop_order::LoopOrder;
 use orders::order::Order;
+use orders::size::Size;
 use orders::step::Step;
 
 /// Applies the steps of an order to one table, in the order's sequence; a step outside the set
@@ -26,11 +26,10 @@ pub fn run_in_place<R: Rule, S: UpdateSet, O: Order>(
     ensures answer { result ≡ in_place_answer (O.log order.now) table.old }
     ensures table { table.new ≡ in_place_table (R.means rule.now) (S.member set.now) (O.log order.now) (O.at order.now) table.old }
 {
-    let n = sites(order);
-    if table.len() != n * n {
-        return Err(LayoutFault::SizeMismatch);
-    }
-    run_steps(rule, set, order, n, table);
+    let size = order.size();
+    check_size(size, table)?;
+    let mut table = Table { size, cells: table };
+    table.run(rule, set, order);
     Ok(())
 }
 
@@ -38,6 +37,7 @@ pub fn run_in_place<R: Rule, S: UpdateSet, O: Order>(
 /// sites. It is the run in place by the loop order.
 /// Refused with number 4 for an exponent above 6, then with 5 if the table has not n² cells; it is
 /// then as before.
+#[tactic(auto, using(crate::proofs::Fitting::loop_by_order))]
 pub fn run_loop<R: Rule, S: UpdateSet>(
     rule: &R,
     set: &S,
@@ -48,63 +48,64 @@ pub fn run_loop<R: Rule, S: UpdateSet>(
     ensures table { table.new ≡ loop_table (R.means rule.now) (S.member set.now) exponent table.old }
 {
     let order = LoopOrder::new(exponent)?;
-    run_by_loop_order(rule, set, &order, table)
+    run_in_place(rule, set, &order, table)
 }
 
-// The run in place by the loop order is the loop.
-fn run_by_loop_order<R: Rule, S: UpdateSet>(
-    rule: &R,
-    set: &S,
-    order: &LoopOrder,
-    table: &mut [R::Cell],
-) -> Result<(), LayoutFault>
-    ensures answer { result ≡ loop_answer order.now.exponent table.old }
-    ensures table { table.new ≡ loop_table (R.means rule.now) (S.member set.now) order.now.exponent table.old }
-{
-    run_in_place(rule, set, order, table)
+// A lent table of n × n cells, row by row.
+#[derive(Drop)]
+struct Table<'a, C> {
+    size: Size,
+    cells: &'a mut [C],
+    ghost sized: { length cells.now ≡ 2 ^ size.exponent * 2 ^ size.exponent },
 }
 
-// All steps of the order on a table of its size.
-fn run_steps<R: Rule, S: UpdateSet, O: Order>(
-    rule: &R,
-    set: &S,
-    order: &O,
-    n: usize,
-    table: &mut [R::Cell],
-)
-    requires sites { n ≡ 2 ^ O.log order.now }
-    requires small { n ≤ 64 }
-    requires sized { length table.old ≡ n * n }
-    ensures { table.new ≡ run_in_place (R.means rule.now) (S.member set.now) n (O.at order.now) table.old }
-{
-    for t in 0..n * n * n {
-        apply_step(rule, set, n, step_at(order, n, t), table);
+impl<C: Copy> Table<'_, C> {
+    // All steps of an order of this size.
+    // The rule and the set come one by one: a struct of both would only be taken apart again.
+    #[tactic(auto, using(elimination::proofs::Runs::run_until_none, elimination::proofs::Runs::run_until_more))]
+    fn run<R: Rule<Cell = C>, S: UpdateSet, O: Order>(&mut self, rule: &R, set: &S, order: &O)
+        requires { self.old.size.exponent ≡ O.log order.now }
+        ensures cells { self.new.cells.now ≡ run_in_place (R.means rule.now) (S.member set.now) (2 ^ self.old.size.exponent) (O.at order.now) self.old.cells.now }
+        ensures same_loan { self.new.cells.ghost_name ≡ self.old.cells.ghost_name }
+    {
+        for step in order.steps() {
+            self.apply_step(rule, set, step);
+        }
     }
-}
 
-// One step on the table.
-fn apply_step<R: Rule, S: UpdateSet>(rule: &R, set: &S, n: usize, step: Step, table: &mut [R::Cell])
-    requires small { n ≤ 64 }
-    requires within { Within n step }
-    requires sized { length table.old ≡ n * n }
-    ensures { table.new ≡ step_in_place (R.means rule.now) (S.member set.now) n step table.old }
-{
-    if set.has(step) {
-        let x = new_value(rule, n, step, table);
-        table[place_of(n, step.i, step.j)] = x;
+    // One step; one outside the set changes nothing.
+    // `Within` is asked of the step at each call: a struct of step and size would be no plainer.
+    #[tactic(auto, using(elimination::proofs::Pivot::step_outside, elimination::proofs::Pivot::step_as_set))]
+    fn apply_step<R: Rule<Cell = C>, S: UpdateSet>(&mut self, rule: &R, set: &S, step: Step)
+        requires { Within (2 ^ self.old.size.exponent) step }
+        ensures cells { self.new.cells.now ≡ step_in_place (R.means rule.now) (S.member set.now) (2 ^ self.old.size.exponent) step self.old.cells.now }
+        ensures same_size { self.new.size ≡ self.old.size }
+        ensures same_loan { self.new.cells.ghost_name ≡ self.old.cells.ghost_name }
+    {
+        if set.has(step) {
+            let x = self.new_value(rule, step);
+            self.cells[place_of(self.size, step.i, step.j)] = x;
+        }
     }
-}
 
-// What the cell of the step becomes.
-fn new_value<R: Rule>(rule: &R, n: usize, step: Step, table: &[R::Cell]) -> R::Cell
-    requires small { n ≤ 64 }
-    requires within { Within n step }
-    requires sized { length table.now ≡ n * n }
-    ensures { (d : R.Cell) → result ≡ value_in_place (R.means rule.now) n step table.now (slice_index_or table.now (place n step.i step.j) d) }
-{
-    let x = cell_at(table, place_of(n, step.i, step.j));
-    let u = cell_at(table, place_of(n, step.i, step.k));
-    let v = cell_at(table, place_of(n, step.k, step.j));
-    let w = cell_at(table, place_of(n, step.k, step.k));
-    rule.apply(x, u, v, w)
+    // What the cell of a step becomes.
+    fn new_value<R: Rule<Cell = C>>(&self, rule: &R, step: Step) -> C
+        requires { Within (2 ^ self.now.size.exponent) step }
+        ensures { (d : C) → result ≡ value_in_place (R.means rule.now) (2 ^ self.now.size.exponent) step self.now.cells.now (slice_index_or self.now.cells.now (place (2 ^ self.now.size.exponent) step.i step.j) d) }
+    {
+        let x = self.cell(step.i, step.j);
+        let u = self.cell(step.i, step.k);
+        let v = self.cell(step.k, step.j);
+        let w = self.cell(step.k, step.k);
+        rule.apply(x, u, v, w)
+    }
+
+    // Cell (i, j), whatever default it is read with.
+    fn cell(&self, i: usize, j: usize) -> C
+        requires row { i < 2 ^ self.now.size.exponent }
+        requires column { j < 2 ^ self.now.size.exponent }
+        ensures { (d : C) → slice_index_or self.now.cells.now (place (2 ^ self.now.size.exponent) i j) d ≡ result }
+    {
+        self.cells[place_of(self.size, i, j)]
+    }
 }

@@ -17,8 +17,8 @@ pub mod sure;
 
 // The runs.
 pub mod careful;
-mod cells;
 pub mod in_place;
-mod steps;
+mod places;
+mod tables;
 #[cfg(test)]
 mod tests;

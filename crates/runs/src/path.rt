@@ -7,7 +7,7 @@ use std::marker::PhantomData;
 
 /// Joins x with u chained to v, in any kind: the best of the route at hand and of the one over the
 /// pivot.
-#[derive(Clone, Copy)]
+#[derive(Clone, Copy, PartialEq, Eq, Debug)]
 pub struct Path<V> {
     kind: PhantomData<V>,
 }

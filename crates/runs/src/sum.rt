@@ -4,7 +4,7 @@ ghost use Rattle.std.specs.Prelude.{◌+◌, ◌%◌, ◌^◌};
 use crate::rule::Rule;
 
 /// Adds the four cells, numbers of 32 bits, wrapping.
-#[derive(Clone, Copy)]
+#[derive(Clone, Copy, PartialEq, Eq, Debug)]
 pub struct Sum;
 
 impl Rule for Sum {

@@ -4,7 +4,7 @@ ghost use Rattle.runs.specs.Sure.{surer};
 use crate::rule::Rule;
 
 /// What is known of a route's deliveries.
-#[derive(Clone, Copy)]
+#[derive(Clone, Copy, PartialEq, Debug)]
 pub struct Delivery {
     /// The fraction delivered.
     pub fraction: f64,
@@ -14,7 +14,7 @@ pub struct Delivery {
 
 /// Keeps x if its fraction is at least the product of those of u and v, else gives that product
 /// and the sum of their delays.
-#[derive(Clone, Copy)]
+#[derive(Clone, Copy, PartialEq, Eq, Debug)]
 pub struct Sure;
 
 impl Rule for Sure {

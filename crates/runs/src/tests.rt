@@ -12,58 +12,38 @@ use orders::recursive_order::RecursiveOrder;
 use orders::step::Step;
 use std::test::Fail;
 
+fn delivery(fraction: f64, delay: f64) -> Delivery {
+    Delivery { fraction, delay }
+}
+
 // Deliveries of two links after one another: 0.5 · 0.75 arrive, after 2 + 4.
 fn over_two_links(x: Delivery) -> Delivery {
-    let u = Delivery {
-        fraction: 0.5,
-        delay: 2.0,
-    };
-    let v = Delivery {
-        fraction: 0.75,
-        delay: 4.0,
-    };
+    let u = delivery(0.5, 2.0);
+    let v = delivery(0.75, 4.0);
     Sure.apply(x, u, v, v)
 }
 
 #[test]
 fn sure_takes_the_larger_fraction(rt: HostRuntime) {
-    let r = over_two_links(Delivery {
-        fraction: 0.25,
-        delay: 1.0,
-    });
-    assert!(rt; r.fraction == 0.375 && r.delay == 6.0);
+    let r = over_two_links(delivery(0.25, 1.0));
+    assert_eq!(rt; r, delivery(0.375, 6.0));
 }
 
 #[test]
 fn sure_keeps_an_equal_fraction(rt: HostRuntime) {
-    let r = over_two_links(Delivery {
-        fraction: 0.375,
-        delay: 9.0,
-    });
-    assert!(rt; r.fraction == 0.375 && r.delay == 9.0);
+    let r = over_two_links(delivery(0.375, 9.0));
+    assert_eq!(rt; r, delivery(0.375, 9.0));
 }
 
 // Four sites with links from 0 to 1, from 1 to 2 and a worse one from 0 to 2.
 #[test]
 fn careful_run_over_deliveries(rt: HostRuntime) -> Result<(), Fail> {
     let order = RecursiveOrder::new(2)?;
-    let lost = Delivery {
-        fraction: 0.0,
-        delay: 0.0,
-    };
+    let lost = delivery(0.0, 0.0);
     let mut table = [lost; 16];
-    table[1] = Delivery {
-        fraction: 0.5,
-        delay: 2.0,
-    };
-    table[6] = Delivery {
-        fraction: 0.75,
-        delay: 4.0,
-    };
-    table[2] = Delivery {
-        fraction: 0.25,
-        delay: 1.0,
-    };
+    table[1] = delivery(0.5, 2.0);
+    table[6] = delivery(0.75, 4.0);
+    table[2] = delivery(0.25, 1.0);
     let mut u0 = [lost; 16];
     let mut u1 = [lost; 16];
     let mut v0 = [lost; 16];
@@ -71,9 +51,9 @@ fn careful_run_over_deliveries(rt: HostRuntime) -> Result<(), Fail> {
     careful_run(
         &Sure, &AllSteps, &order, &mut table, &mut u0, &mut u1, &mut v0, &mut v1,
     )?;
-    assert!(rt; table[2].fraction == 0.375 && table[2].delay == 6.0);
-    assert!(rt; table[1].fraction == 0.5 && table[1].delay == 2.0);
-    assert!(rt; table[3].fraction == 0.0);
+    assert_eq!(rt; table[2], delivery(0.375, 6.0));
+    assert_eq!(rt; table[1], delivery(0.5, 2.0));
+    assert_eq!(rt; table[3], lost);
     Ok(())
 }
 
@@ -84,6 +64,7 @@ fn relays_are_the_bits_of_a_word(rt: HostRuntime) {
     assert!(rt; relays.has(Step { i: 0, j: 0, k: 3 }));
     assert!(rt; !relays.has(Step { i: 0, j: 3, k: 1 }));
     assert!(rt; !relays.has(Step { i: 0, j: 0, k: 64 }));
+    assert!(rt; relays.includes(3) && !relays.includes(2) && !relays.includes(67));
 }
 
 #[test]

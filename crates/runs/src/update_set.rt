@@ -5,6 +5,7 @@ ghost use Rattle.orders.specs.declared.step.Step.{Step};
 use orders::step::Step;
 
 /// A set of steps.
+// A trait, no closure: the theorems name the members, and a closure has no such name.
 pub trait UpdateSet {
     ghost member: { Self → Step → Bool };
 

@@ -10,7 +10,7 @@ use orders::recursive_order::RecursiveOrder;
 use std::test::Fail;
 
 // Channels 0→1 = 3, 1→3 = 1, 0→2 = 6 and 2→3 = 4, settled with a relay word by an order: what the
-// board shows from 0 to 3.
+// board shows from 0 to 3. The word is a plain number, as a settling takes it.
 fn channels_shown<O: Order>(relays: u64, order: &O) -> Result<Channels, LinkFault> {
     let mut ground = [Channels::here(); 33];
     let mut draft = Draft::make(&mut ground, 2);

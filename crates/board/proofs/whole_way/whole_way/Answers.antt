@@ -4,61 +4,51 @@ use Rattle.kinds.specs.Costs.{costs}
 use Rattle.orders.specs.LoopOrder.{loop_at}
 use Rattle.orders.specs.RecursiveOrder.{recursive_at}
 use Rattle.paths.specs.Calls.{settled, post_answer, withdraw_answer}
-use Rattle.paths.specs.History.{made, posted, withdrawn, reopened, Leads, Longer}
-use Rattle.board.specs.WholeWay.{one, five, seven, nine, ten, found, drafted, settled_first, improved, settled_again}
-use Rattle.board.proofs.WholeWayComputed.{takes_first, takes_second, refuses_same, shows_first, takes_better, shows_better, takes_withdrawal, shows_last, leads_post, shows, settles}
+use Rattle.paths.specs.History.{made, posted, withdrawn, settled_by, reopened, Leads, Longer}
+use Rattle.board.specs.WholeWay.{one, five, seven, nine, ten}
+use Rattle.board.proofs.WholeWayComputed.{takes_first, takes_second, refuses_same, shows_first, takes_better, shows_better, takes_withdrawal, shows_last, Stands, called, posting, settles, answered, shows}
 use Rattle.board.proofs.whole_way.whole_way.Goals as goal
 
 pub returns : goal.returns
 returns c =
-    let x0 = c.make-draft.result.ground.now in
-    let x1 = c.post-first_link.new.self.ground.now in
-    let x2 = c.post-second_link.new.self.ground.now in
-    let x3 = c.post-same_site.new.self.ground.now in
-    let x4 = c.settle-board.result.ground.now in
-    let x5 = c.post-better_link.new.self.ground.now in
-    let x6 = c.reopen-reopened.result.ground.now in
-    let x7 = c.withdraw-withdrawn.new.self.ground.now in
-    let x8 = c.settle-again.result.ground.now in
-    let e0 : c.make-draft.result.exponent ≡ 2 = c.make-draft.ensures.exponent in
-    let e1 : c.post-first_link.new.self.exponent ≡ 2 = c.post-first_link.ensures.exponent ∙ e0 in
-    let e2 : c.post-second_link.new.self.exponent ≡ 2 = c.post-second_link.ensures.exponent ∙ e1 in
-    let e3 : c.post-same_site.new.self.exponent ≡ 2 = c.post-same_site.ensures.exponent ∙ e2 in
-    let e4 : c.settle-board.result.exponent ≡ 2 = c.settle-board.ensures.exponent ∙ e3 in
-    let e5 : c.post-better_link.new.self.exponent ≡ 2 = c.post-better_link.ensures.exponent ∙ e4 in
-    let e6 : c.reopen-reopened.result.exponent ≡ 2 = c.reopen-reopened.ensures.exponent ∙ e5 in
-    let e7 : c.withdraw-withdrawn.new.self.exponent ≡ 2 = c.withdraw-withdrawn.ensures.exponent ∙ e6 in
-    let e8 : c.settle-again.result.exponent ≡ 2 = c.settle-again.ensures.exponent ∙ e7 in
-    let r4 : c.settle-board.result.relays ≡ 2 = c.settle-board.ensures.relays in
-    let r5 : c.post-better_link.new.self.relays ≡ 2 = c.post-better_link.ensures.relays ∙ r4 in
-    let r8 : c.settle-again.result.relays ≡ 2 = c.settle-again.ensures.relays in
-    let l0 : Leads costs 2 found made x0 =
-    subst (λ x. Leads costs 2 (replicate 32 x) made x0) (c.new-ground.ensures.only seven refl) c.make-draft.ensures.history in
-    let l1 = leads_post made 0 1 c.new.result ten _ x0 x1 e0 (c.new.ensures.only ten refl) c.post-first_link.ensures.history l0 in
-    let l2 = leads_post (posted made 0 1 ten) 1 2 c.new-2.result five _ x1 x2 e1 (c.new-2.ensures.only five refl) c.post-second_link.ensures.history l1 in
-    let l3 : Leads costs 2 found drafted x3 =
-    leads_post (posted (posted made 0 1 ten) 1 2 five) 1 1 c.new-3.result one _ x2 x3 e2 (c.new-3.ensures.only one refl) c.post-same_site.ensures.history l2 in
-    let s4 = settles recursive_at c.recursive.result.exponent _ x3 x4 c.recursive.ensures e3 c.settle-board.ensures.history in
-    let l4 : Leads costs 2 found (settled_first s4.lawful) x4 = s4.longer found drafted l3 in
-    let h5 : Longer costs c.settle-board.result.exponent {s = settled 2} (λ h. posted h 0 2 c.new-4.result) x4 x5 =
-    subst (λ w. Longer costs c.settle-board.result.exponent {s = settled w} (λ h. posted h 0 2 c.new-4.result) x4 x5) r4 c.post-better_link.ensures.history in
-    let l5 : Leads costs 2 found (improved s4.lawful) x5 =
-    leads_post (settled_first s4.lawful) 0 2 c.new-4.result nine _ x4 x5 e4 (c.new-4.ensures.only nine refl) h5 l4 in
-    let l6 : Leads costs 2 found (reopened (improved s4.lawful)) x6 =
-    subst (λ q. Longer costs q {s = settled 2} reopened x5 x6) e5 (subst (λ w. Longer costs c.post-better_link.new.self.exponent {s = settled w} reopened x5 x6) r5 c.reopen-reopened.ensures.history) found (improved s4.lawful) l5 in
-    let l7 : Leads costs 2 found (withdrawn (reopened (improved s4.lawful)) 0 2) x7 =
-    subst (λ q. Longer costs q (λ h. withdrawn h 0 2) x6 x7) e6 c.withdraw-withdrawn.ensures.history found (reopened (improved s4.lawful)) l6 in
-    let s8 = settles (λ q. loop_at (2 ^ q)) c.looping.result.exponent _ x7 x8 c.looping.ensures e7 c.settle-again.ensures.history in
-    let l8 : Leads costs 2 found (settled_again s4.lawful s8.lawful) x8 = s8.longer found (withdrawn (reopened (improved s4.lawful)) 0 2) l7 in
+    let g0 = c.make-draft.result.ground in
+    let g3 = c.post-same_site.new.self.ground in
+    let g4 = c.settle-board.result.ground in
+    let g5 = c.post-better_link.new.self.ground in
+    let g6 = c.reopen-reopened.result.ground in
+    let g7 = c.withdraw-withdrawn.new.self.ground in
+    let g8 = c.settle-again.result.ground in
+    let s0 : Stands made g0 = record {
+      two = c.make-draft.ensures.exponent;
+      leads = subst (λ x. Leads costs 2 (replicate 32 x) made g0.cells.now) (c.new-ground.ensures.only seven refl) c.make-draft.ensures.history;
+    } in
+    let s1 = posting c.post-first_link.new.self.ground 0 1 (c.new.ensures.only ten refl) s0 c.post-first_link.ensures.kept.exponent c.post-first_link.ensures.history in
+    let s2 = posting c.post-second_link.new.self.ground 1 2 (c.new-2.ensures.only five refl) s1 c.post-second_link.ensures.kept.exponent c.post-second_link.ensures.history in
+    let s3 = posting g3 1 1 (c.new-3.ensures.only one refl) s2 c.post-same_site.ensures.kept.exponent c.post-same_site.ensures.history in
+    let first = settles recursive_at c.of_four.result.size.exponent _ g3.cells.now g4.cells.now c.of_four.ensures
+    c.settle-board.ensures.history in
+    let s4 = called (λ h. settled_by h 2 2 (recursive_at 2) first.lawful) g4 s3 c.settle-board.ensures.kept.exponent first.longer in
+    let r4 : c.settle-board.result.relays.word ≡ 2 = c.settle-board.ensures.relays in
+    let r5 : c.post-better_link.new.self.relays.word ≡ 2 = ap (λ r. r.word) c.post-better_link.ensures.relays ∙ r4 in
+    let h5 : Longer costs g4.exponent {s = settled 2} (λ h. posted h 0 2 c.new-5.result) g4.cells.now g5.cells.now =
+    subst (λ w. Longer costs g4.exponent {s = settled w} (λ h. posted h 0 2 c.new-5.result) g4.cells.now g5.cells.now) r4 c.post-better_link.ensures.history in
+    let s5 = posting g5 0 2 (c.new-5.ensures.only nine refl) s4 c.post-better_link.ensures.kept.exponent h5 in
+    let h6 : Longer costs g5.exponent {s = settled 2} reopened g5.cells.now g6.cells.now =
+    subst (λ w. Longer costs g5.exponent {s = settled w} reopened g5.cells.now g6.cells.now) r5 c.reopen-reopened.ensures.history in
+    let s6 = called reopened g6 s5 c.reopen-reopened.ensures.kept.exponent h6 in
+    let s7 = called (λ h. withdrawn h 0 2) g7 s6 c.withdraw-withdrawn.ensures.kept.exponent c.withdraw-withdrawn.ensures.history in
+    let again = settles (λ q. loop_at (2 ^ q)) c.of_four-2.result.size.exponent _ g7.cells.now g8.cells.now c.of_four-2.ensures
+    c.settle-again.ensures.history in
+    let s8 = called (λ h. settled_by h 2 2 (loop_at 4) again.lawful) g8 s7 c.settle-again.ensures.kept.exponent again.longer in
     record {
-      first_link = c.post-first_link.ensures.answer ∙ ap (λ q. post_answer q 0 1 x0) e0 ∙ ap (post_answer 2 0 1) l0 ∙ takes_first;
-      second_link = c.post-second_link.ensures.answer ∙ ap (λ q. post_answer q 1 2 x1) e1 ∙ ap (post_answer 2 1 2) l1 ∙ takes_second;
-      same_site = c.post-same_site.ensures.answer ∙ ap (λ q. post_answer q 1 1 x2) e2 ∙ ap (post_answer 2 1 1) l2 ∙ refuses_same;
-      recursive = s4.lawful;
-      settled = shows (settled_first s4.lawful) 15 _ _ x4 _ e4 r4 l4 (shows_first s4.lawful s8.lawful) c.ask-settled.ensures.answer c.ask-settled.ensures.best;
-      better_link = c.post-better_link.ensures.answer ∙ ap (λ q. post_answer q 0 2 x4) e4 ∙ ap (post_answer 2 0 2) l4 ∙ takes_better s4.lawful s8.lawful;
-      improved = shows (improved s4.lawful) 9 _ _ x5 _ e5 r5 l5 (shows_better s4.lawful s8.lawful) c.ask-improved.ensures.answer c.ask-improved.ensures.best;
-      withdrawn = c.withdraw-withdrawn.ensures.answer ∙ ap (λ q. withdraw_answer costs q 0 2 x6) e6 ∙ ap (withdraw_answer costs 2 0 2) l6 ∙ takes_withdrawal s4.lawful s8.lawful;
-      looping = s8.lawful;
-      settled_again = shows (settled_again s4.lawful s8.lawful) 15 _ _ x8 _ e8 r8 l8 (shows_last s4.lawful s8.lawful) c.ask-settled_again.ensures.answer c.ask-settled_again.ensures.best;
+      first_link = answered (λ q. post_answer q 0 1) s0 c.post-first_link.ensures.answer takes_first;
+      second_link = answered (λ q. post_answer q 1 2) s1 c.post-second_link.ensures.answer takes_second;
+      same_site = answered (λ q. post_answer q 1 1) s2 c.post-same_site.ensures.answer refuses_same;
+      recursive = first.lawful;
+      settled = shows 15 _ _ s4 r4 (shows_first first.lawful again.lawful) c.ask-settled.ensures.answer c.ask-settled.ensures.best;
+      better_link = answered (λ q. post_answer q 0 2) s4 c.post-better_link.ensures.answer (takes_better first.lawful again.lawful);
+      improved = shows 9 _ _ s5 r5 (shows_better first.lawful again.lawful) c.ask-improved.ensures.answer c.ask-improved.ensures.best;
+      withdrawn = answered (λ q. withdraw_answer costs q 0 2) s6 c.withdraw-withdrawn.ensures.answer (takes_withdrawal first.lawful again.lawful);
+      looping = again.lawful;
+      settled_again = shows 15 _ _ s8 c.settle-again.ensures.relays (shows_last first.lawful again.lawful) c.ask-settled_again.ensures.answer c.ask-settled_again.ensures.best;
     }

@@ -4,7 +4,4 @@ use Rattle.fill_table.proofs.Distances.{left_in_place}
 use Rattle.fill_table.proofs.network.distances_in_place.Goals as goal
 
 pub returns : goal.returns
-returns c =
-    let e = c.in_ok-order.order.exponent in
-    let two = (made_exponent 2 e c.in_ok-order.ensures).1 in
-    ap Ok (left_in_place e two c.links-table.result c.links-table.ensures c.run_in_place.new.table c.run_in_place.ensures.table)
+returns c = ap Ok (left_in_place _ (made_exponent 2 _ c.in_ok-order.ensures).1 _ c.links-costs.ensures _ c.run_in_place.ensures.table)

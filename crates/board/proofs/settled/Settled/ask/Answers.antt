@@ -4,16 +4,10 @@ use Rattle.paths.specs.Law.{ShowsBest}
 use Rattle.paths.proofs.ShowsBest.{shows_best}
 use Rattle.board.proofs.settled.Settled.ask.Goals as goal
 
-pub returns : goal.returns
-returns g c =
-    let o = g.V.Kind.ops in
-    let q = c.args.self.now.exponent in
-    let word = c.args.self.now.relays in
-    let xs = c.args.self.now.ground.now in
-    let a = c.args.from in
-    let b = c.args.to in
-    let answer = c.shown.ensures in
-    record {
-      answer = answer;
-      best = subst (ShowsBest o q word xs a b) (sym answer) (shows_best g.met.V.Kind.lawful q word xs a b);
-    }
+pub returns-clause-best : goal.returns-clause-best
+returns-clause-best g c =
+    let board = c.args.self.now in
+    let q = board.ground.exponent in
+    let xs = board.ground.cells.now in
+    subst (ShowsBest g.V.Kind.ops q board.relays.word xs c.args.from c.args.to) (sym c.shown.ensures)
+    (shows_best g.met.V.Kind.lawful q board.relays.word xs c.args.from c.args.to)
