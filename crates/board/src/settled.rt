@@ -19,6 +19,8 @@ pub struct Settled<'a, V: Kind> {
 }
 
 impl<'a, V: Kind> Settled<'a, V> {
+    // `post`, `count` and `end` stand in a draft too: two types, so that misuse does not compile.
+
     /// Joins a value to the link from one site to another, and every route with the way over it: route
     /// a to b with route a to `from`, the value, and route `to` to b, where a is `from` or `from` is a
     /// relay, and b is `to` or `to` is a relay.

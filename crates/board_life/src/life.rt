@@ -14,7 +14,7 @@ use std::io;
 // Four mirrors are 2^2.
 const EXPONENT: u32 = 2;
 
-// A site that the board has not.
+// A site that the board has not, so no mirror.
 const OUTSIDE: usize = 4;
 
 // Geneva and Kyoto as relays. By `as`: a const can't call `site`.
@@ -130,7 +130,8 @@ fn say_link(rt: &impl Print, from: Mirror, to: Mirror, cost: u32) -> io::Result<
     println!(rt; "    {from} to {to}: {cost}")
 }
 
-// Posts a link that is refused, and says with which number.
+// Posts a link that is refused, and says with which number. By numbers, since one of the sites is no
+// mirror.
 fn refuse(rt: &impl Print, draft: &mut Draft<Cost>, from: usize, to: usize) -> Result<()> {
     match draft.post(from, to, Cost::new(1)) {
         Ok(()) => println!(rt; "    site {from} to site {to} is taken")?,

@@ -23,8 +23,9 @@ pub enum LinkFault {
 }
 
 impl LinkFault {
-    // Each party has an enum of its own, so `number` stands in both.
     /// The number of the fault: 1 for a site, 2 for the same site twice, 3 for no link.
+    // Each party has an enum of its own, so `number` stands in both; no `From`, since `u8::from(fault)`
+    // would not say which number.
     pub fn number(self) -> u8
         ensures { result ≡ link_number self }
     {
@@ -45,8 +46,9 @@ pub enum LayoutFault {
 }
 
 impl LayoutFault {
-    // Each party has an enum of its own, so `number` stands in both.
     /// The number of the fault: 4 for the exponent, 5 for a size.
+    // Each party has an enum of its own, so `number` stands in both; no `From`, since `u8::from(fault)`
+    // would not say which number.
     pub fn number(self) -> u8
         ensures { result ≡ layout_number self }
     {

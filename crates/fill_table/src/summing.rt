@@ -22,6 +22,7 @@ pub(crate) fn by_loop() -> Result<[u32; 4], LayoutFault>
 }
 
 /// What the run in place by the recursive order leaves.
+// Like the distances in network.rt: one function for both would only pass arguments on.
 #[tactic(auto, using(crate::proofs::Computed::run_leaves))]
 pub(crate) fn in_place() -> Result<[u32; 4], LayoutFault>
     ensures { result ≡ Ok (20 ∷ 8 ∷ 8 ∷ 4 ∷ []) }

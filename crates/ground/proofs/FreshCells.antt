@@ -18,13 +18,13 @@ module _ {V : Type 0} (o : Ops V) (n : ℕ) where
   fresh_past : (p : ℕ) (x : V) → m ≤ p → fresh o n p x ≡ x
   fresh_past p x h = grind arith
 
-  -- the cells of the two tables laid up to p, which is their end, before later cells that stay
+  -- the cells of the two tables laid, before later cells that stay
   cells_laid : (xs ys : List V) → m ≤ length xs → length ys ≡ m → ((k : ℕ) (d : V) → k < m → get_or ys k d ≡ fresh_cell o n k) → ys ++ drop m xs ≡ by_place (fresh o n) xs
   cells_laid xs ys room sized each =
       same_lists _ _ (omega (arith, length-append ys (drop m xs), length-drop m xs, length-by_place (fresh o n) xs)) (λ k d h.
       grind (arith, fresh_inside, fresh_past, get_or-by_place, get_or_append_left, get_or-append_right, get_or-drop, length-append ys (drop m xs), length-drop m xs))
 
--- all places up to p are laid, and p is past the two tables
+-- all places before p are laid, and p is past the two tables
 pub ground_laid : {V : Type 0} (o : Ops V) (q n cells p : ℕ) (xs ys : List V) → cells ≡ 2 * (n * n) → n ≡ sites_on q (length xs) → 2 * (n * n) ≤ length xs
     → length ys ≡ length (take cells xs) → length (take cells xs) ≤ p → ((k : ℕ) (d : V) → k < p → get_or ys k d ≡ fresh_cell o n k)
     → ys ++ drop cells xs ≡ make_ground o q xs

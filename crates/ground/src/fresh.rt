@@ -22,7 +22,7 @@ impl<V: Kind> Ground<'_, V> {
     }
 }
 
-// The cell at a place of the two tables.
+// The cell at a place of the two tables. At most 64 sites are asked for, so that no number overflows.
 fn fresh_cell<V: Kind>(n: usize, p: usize) -> V
     requires some { 0 < n }
     requires small { n ≤ 64 }

@@ -12,9 +12,9 @@ use faults::LinkFault;
 use kinds::kind::Kind;
 
 impl<V: Kind> Ground<'_, V> {
-    // Where the link from i to j stands. The crate runs has such a function for its tables: it asks for
-    // known sites too, so it is not public either. Two known sites are no struct: it would still have
-    // to be tied to its ground.
+    // Where the link from i to j stands. It asks for known sites, as `place_of` in the crate runs does,
+    // so neither is public and each crate has its own. The sites come one by one: a struct of two would
+    // still have to be tied to its ground.
     pub(crate) fn link_place(&self, i: usize, j: usize) -> usize
         requires { Pair self.now.n i j }
         ensures place { result ≡ place self.now.n i j }
@@ -78,8 +78,8 @@ impl<V: Kind> Ground<'_, V> {
     }
 }
 
-/// The number of ordered pairs of different sites whose link is not none, on cells that are only
-/// read.
+/// The number of ordered pairs of different sites whose link is not none, for cells that are lent to
+/// be read alone.
 #[tactic(auto, using(crate::proofs::Counting::tally_more, crate::proofs::Counting::is_link_here), unfolding(paths::specs::Calls::tally))]
 pub fn count_links<V: Kind>(cells: &[V], exponent: u32) -> usize
     ensures { result ≡ count_links V.ops exponent cells.now }

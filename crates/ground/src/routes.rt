@@ -22,6 +22,7 @@ struct Link<V> {
 
 impl<V: Kind> Ground<'_, V> {
     // Where the route from i to j stands: behind the links, since a board stands on one lent slice.
+    // Here and below known sites are asked for pair by pair, as for links.
     fn route_place(&self, i: usize, j: usize) -> usize
         requires { Pair self.now.n i j }
         ensures place { result ≡ route_place self.now.n i j }
@@ -109,7 +110,8 @@ impl<V: Kind> Ground<'_, V> {
     }
 }
 
-/// The route from one site to another, which may be the same, on cells that are only read.
+/// The route from one site to another, which may be the same, for cells that are lent to be read
+/// alone.
 /// Refused with number 1 for a site not below n.
 #[tactic(auto, using(elimination::proofs::Tables::place_below))]
 pub fn ask_route<V: Kind>(
@@ -124,6 +126,7 @@ pub fn ask_route<V: Kind>(
     if from >= n || to >= n {
         return Err(LinkFault::SiteOutside);
     }
+    // Written out, since `route_place` is a method of a ground, and that is made of a `&mut`.
     Ok(cells[n * n + (from * n + to)])
 }
 

@@ -34,7 +34,8 @@ impl<V: Kind> Ground<'_, V> {
 }
 
 // Runs the steps over relays on a table of 2^exponent sites, by the order if it is of that exponent
-// and else by the loop order.
+// and else by the loop order. The exponent and the table come apart: a struct of both would be made
+// for this one call.
 #[tactic(auto, using(crate::proofs::RunOnRoutes::loop_as_order))]
 fn run_routes<V: Kind, O: Order>(exponent: u32, relays: Relays, order: &O, table: &mut [V])
     requires small { exponent ≤ 6 }

@@ -10,9 +10,9 @@ use crate::size::Size;
 use crate::step::Step;
 use faults::LayoutFault;
 
+/// The order of the triple loop: k, then i, then j ascending.
 // Two order types, each a list of its own, so `new`, `size` and `step` stand in both: a generic type
 // would be no plainer.
-/// The order of the triple loop: k, then i, then j ascending.
 #[derive(Clone, Copy, PartialEq, Eq, Debug)]
 pub struct LoopOrder {
     size: Size,

@@ -10,10 +10,10 @@ use crate::size::Size;
 use crate::step::Step;
 use faults::LayoutFault;
 
-// Two order types, each a list of its own, so `new`, `size` and `step` stand in both: a generic type
-// would be no plainer.
 /// The recursive order: in each table the four quarters forward with the lower half of the
 /// pivots, then the four backward with the upper half, and so on inside each quarter.
+// Two order types, each a list of its own, so `new`, `size` and `step` stand in both: a generic type
+// would be no plainer.
 #[derive(Clone, Copy, PartialEq, Eq, Debug)]
 pub struct RecursiveOrder {
     size: Size,
@@ -56,7 +56,7 @@ fn recursive_step(size: Size, t: usize) -> Step
     ensures { result ≡ recursive_at size.exponent t }
 {
     let mut s = Step { i: 0, j: 0, k: 0 };
-    // A level is a digit of t, not a place of a list.
+    // From the highest digit of t to the lowest.
     for level in (0..size.exponent()).rev() {
         s = s.place(2, Step::of_digit((t >> (3 * level)) % 8));
     }

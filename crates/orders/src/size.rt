@@ -71,7 +71,7 @@ impl Size {
 }
 
 /// The number of sites of an exponent: 2^exponent, from 1 to 64.
-/// The same as `Size::new` and its sites, in one call.
+/// The same as `Size::new` and its sites, for callers that want the number alone.
 /// Refused with number 4 above 6.
 pub fn site_count(exponent: u32) -> Result<usize, LayoutFault>
     ensures answer { result ≡ site_count_answer exponent }

@@ -1,4 +1,4 @@
-// A step, by its digit or inside a block, and as one number.
+// A step: by its digit, inside a block, and as one number.
 
 /// One step of the elimination loop: it works cell (i, j) with pivot k.
 #[derive(Clone, Copy, PartialEq, Eq, Debug)]
@@ -34,7 +34,8 @@ impl Step {
         }
     }
 
-    // A step inside the block of so many sites that this step names.
+    // A step inside the block of so many sites that this step names. All are asked to be at most 64, so
+    // that no number overflows.
     pub(crate) fn place(self, sites: usize, inside: Step) -> Step
         requires block { Within 64 self }
         requires sites { sites ≤ 64 }

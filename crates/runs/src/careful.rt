@@ -59,7 +59,8 @@ pub fn careful_run<R: Rule, S: UpdateSet, O: Order>(
 
 impl<C: Copy> Tables<'_, C> {
     // The walk: one careful step for each step of an order of this size.
-    // Not one method with `Table::run`: what a step writes differs.
+    // Not one method with `Table::run`: what a step writes differs. The rule and the set come one by
+    // one, as there.
     #[tactic(auto, using(elimination::proofs::Runs::walk_until_none, elimination::proofs::Runs::walk_until_more))]
     fn walk<R: Rule<Cell = C>, S: UpdateSet, O: Order>(&mut self, rule: &R, set: &S, order: &O)
         requires size { self.old.size.exponent ≡ O.log order.now }
@@ -116,7 +117,8 @@ impl<C: Copy> Tables<'_, C> {
 }
 
 // Reads a cell of u0 and u1, or of v0 and v1: from the second if the loop has passed that cell with
-// the pivot at hand, else from the first.
+// the pivot at hand, else from the first. A flag and no enum, since each caller has it as a
+// comparison.
 fn side_cell<C: Copy>(passed: bool, before: &[C], after: &[C], at: usize) -> C
     requires before { at < length before.now }
     requires after { at < length after.now }
