@@ -11,7 +11,6 @@ use Rattle.orders.specs.RecursiveOrder.{recursive_at}
 use Rattle.orders.specs.Lawful.{Lawful}
 use Rattle.elimination.specs.Table.{changed, upto}
 use Rattle.elimination.specs.Loop.{step_in_place, run_until}
-use Rattle.ground.specs.declared.ground.Ground.{Ground}
 use Rattle.paths.specs.Ground.{sites_on, by_place_from}
 use Rattle.paths.specs.Calls.{Status, settled, post_answer, withdraw_answer, ask_answer}
 use Rattle.paths.specs.History.{History, made, posted, reopened, ground_after, Leads, Longer, Settles}
@@ -59,38 +58,37 @@ module _ (recursive : Lawful 4 (recursive_at 2)) (looping : Lawful 4 (loop_at 4)
   unfolding sites_on by_place_from changed upto step_in_place run_until
   shows_last = refl
 
--- a board of four sites on this ground, which the history led to
-pub record Stands {s : Status} (h : History Cost s) (g : Ground Cost) : Type 0 where
-  pub two : g.exponent ≡ 2
-  pub leads : Leads costs 2 found h g.cells.now
+-- a board of four sites with these cells, which the history led to
+pub record Stands {s : Status} (h : History Cost s) (e : ℕ) (xs : List Cost) : Type 0 where
+  pub two : e ≡ 2
+  pub leads : Leads costs 2 found h xs
 
 -- a call that makes histories longer
-pub called : {s t : Status} (call : History Cost s → History Cost t) {h : History Cost s} {g : Ground Cost} (g' : Ground Cost) → Stands h g
-    → g'.exponent ≡ g.exponent → Longer costs g.exponent call g.cells.now g'.cells.now → Stands (call h) g'
-called call {h = h} {g = g} g' st same longer =
-    record { two = same ∙ st.two; leads = subst (λ q. Longer costs q call g.cells.now g'.cells.now) st.two longer found h st.leads }
+pub called : {s t : Status} (call : History Cost s → History Cost t) {h : History Cost s} {e e' : ℕ} {xs : List Cost} (ys : List Cost) → Stands h e xs
+    → e' ≡ e → Longer costs e call xs ys → Stands (call h) e' ys
+called call {h = h} {xs = xs} ys st same longer =
+    record { two = same ∙ st.two; leads = subst (λ q. Longer costs q call xs ys) st.two longer found h st.leads }
 
 -- a post of x, which is the value v
-pub posting : {s : Status} {h : History Cost s} {g : Ground Cost} (g' : Ground Cost) (from to : ℕ) {x v : Cost} → x ≡ v → Stands h g
-    → g'.exponent ≡ g.exponent → Longer costs g.exponent {s = s} (λ h. posted h from to x) g.cells.now g'.cells.now → Stands (posted h from to v) g'
-posting {s = s} {h = h} g' from to {x = x} is st same longer =
-    subst (λ w. Stands (posted h from to w) g') is (called {s = s} (λ h. posted h from to x) g' st same longer)
+pub posting : {s : Status} {h : History Cost s} {e e' : ℕ} {xs : List Cost} (ys : List Cost) (from to : ℕ) {x v : Cost} → x ≡ v → Stands h e xs
+    → e' ≡ e → Longer costs e {s = s} (λ h. posted h from to x) xs ys → Stands (posted h from to v) e' ys
+posting {s = s} {h = h} {e' = e'} ys from to {x = x} is st same longer =
+    subst (λ w. Stands (posted h from to w) e' ys) is (called {s = s} (λ h. posted h from to x) ys st same longer)
 
 -- a settling by an order of exponent d, which is 2
 pub settles : (order : ℕ → ℕ → Step) (d e : ℕ) (xs ys : List Cost) → d ≡ 2 → Settles costs e 2 d (order d) xs ys → Settles costs e 2 2 (order 2) xs ys
 settles order d e xs ys same = subst (λ m. Settles costs e 2 m (order m) xs ys) same
 
 -- what a call answers
-pub answered : {s : Status} {h : History Cost s} {g : Ground Cost} (answer : ℕ → List Cost → Result (Unit {0}) LinkFault) {r a : Result (Unit {0}) LinkFault} → Stands h g
-    → r ≡ answer g.exponent g.cells.now → answer 2 (after h) ≡ a → r ≡ a
-answered {g = g} answer st is computed = is ∙ ap (λ q. answer q g.cells.now) st.two ∙ ap (answer 2) st.leads ∙ computed
+pub answered : {s : Status} {h : History Cost s} {e : ℕ} {xs : List Cost} (answer : ℕ → List Cost → Result (Unit {0}) LinkFault) {r a : Result (Unit {0}) LinkFault} → Stands h e xs
+    → r ≡ answer e xs → answer 2 (after h) ≡ a → r ≡ a
+answered {xs = xs} answer st is computed = is ∙ ap (λ q. answer q xs) st.two ∙ ap (answer 2) st.leads ∙ computed
 
 -- what an ask shows, with its number
-pub shows : {word : ℕ} {h : History Cost (settled word)} {g : Ground Cost} (n word' : ℕ) (r : Result Cost LinkFault) → Stands h g → word' ≡ word
-    → number (ask_answer costs 2 0 2 (after h)) ≡ Ok n → r ≡ ask_answer costs g.exponent 0 2 g.cells.now → ShowsBest costs g.exponent word' g.cells.now 0 2 r → Shows h n r
+pub shows : {word : ℕ} {h : History Cost (settled word)} {e : ℕ} {xs : List Cost} (n word' : ℕ) (r : Result Cost LinkFault) → Stands h e xs → word' ≡ word
+    → number (ask_answer costs 2 0 2 (after h)) ≡ Ok n → r ≡ ask_answer costs e 0 2 xs → ShowsBest costs e word' xs 0 2 r → Shows h n r
 unfolding sites_on
-shows {word = word} {h = h} {g = g} n word' r st same computed answer law =
-    let xs : List Cost = g.cells.now in
+shows {word = word} {h = h} {xs = xs} n word' r st same computed answer law =
     let law' : ShowsBest costs 2 word xs 0 2 r = subst (λ w. ShowsBest costs 2 w xs 0 2 r) same (subst (λ q. ShowsBest costs q word' xs 0 2 r) st.two law) in
     let best = law' found h st.leads (omega arith) (omega arith) in
     let is = ap (λ q. ask_answer costs q 0 2 xs) st.two ∙ ap (ask_answer costs 2 0 2) st.leads in

@@ -3,11 +3,11 @@ ghost use Rattle.std.specs.Prelude.{◌≡◌, length};
 ghost use Rattle.paths.specs.Calls.{draft, make_answer, make_ground, post_answer, post_ground, withdraw_answer, withdraw_ground, settle_ground, count_links};
 ghost use Rattle.paths.specs.History.{made, posted, withdrawn, Leads, Longer, Settles};
 ghost use Rattle.paths.specs.Law.{CountsTold};
-ghost use Rattle.ground.specs.Kept.{Kept};
 
 use crate::settled::Settled;
 use faults::{LayoutFault, LinkFault};
 use ground::ground::Ground;
+use ground::links::count_links;
 use ground::sites::check_layout;
 use kinds::kind::Kind;
 use orders::order::Order;
@@ -18,7 +18,10 @@ use runs::relays::Relays;
 /// cells.
 #[derive(Drop)]
 pub struct Draft<'a, V: Kind> {
-    pub(crate) ground: Ground<'a, V>,
+    // The slice itself, and no `Ground` around it: of what a struct inside a struct holds the lender
+    // would not learn what was written. Each call that writes cells makes a `Ground` of it.
+    pub(crate) ground: &'a mut [V],
+    pub(crate) exponent: u32,
 }
 
 impl<'a, V: Kind> Draft<'a, V> {
@@ -34,71 +37,78 @@ impl<'a, V: Kind> Draft<'a, V> {
     /// routes. The later cells of the ground stay. It refuses nothing: where `can_make` refuses, the
     /// board has no sites and every cell stays.
     pub fn make(ground: &'a mut [V], exponent: u32) -> Draft<'a, V>
-        ensures ground { result.ground.cells.now ≡ make_ground V.ops exponent ground.old }
-        ensures exponent { result.ground.exponent ≡ exponent }
-        ensures lender { result.ground.cells.ghost_name ≡ ground.entry.ghost_name }
-        ensures history { Leads V.ops exponent ground.old made result.ground.cells.now }
+        ensures ground { result.ground.now ≡ make_ground V.ops exponent ground.old }
+        ensures exponent { result.exponent ≡ exponent }
+        ensures lender { result.ground.ghost_name ≡ ground.entry.ghost_name }
+        ensures history { Leads V.ops exponent ground.old made result.ground.now }
     {
-        let mut ground = Ground::on(ground, exponent);
-        ground.lay_out();
-        Draft { ground }
+        Ground::on(ground, exponent).lay_out();
+        Draft { ground, exponent }
     }
 
     /// Joins a value to the link from one site to another.
     /// Refused with number 1 for a site that is not one of the board's, then with number 2 for the same
     /// site twice; a refusal leaves every cell.
     pub fn post(&mut self, from: usize, to: usize, value: V) -> Result<(), LinkFault>
-        ensures answer { result ≡ post_answer self.old.ground.exponent from to self.old.ground.cells.now }
-        ensures ground { self.new.ground.cells.now ≡ post_ground V.ops self.old.ground.exponent draft from to value self.old.ground.cells.now }
-        ensures kept { Kept self.old.ground self.new.ground }
-        ensures history { Longer V.ops self.old.ground.exponent {s = draft} (λ h. posted h from to value) self.old.ground.cells.now self.new.ground.cells.now }
+        ensures answer { result ≡ post_answer self.old.exponent from to self.old.ground.now }
+        ensures ground { self.new.ground.now ≡ post_ground V.ops self.old.exponent draft from to value self.old.ground.now }
+        ensures exponent { self.new.exponent ≡ self.old.exponent }
+        ensures lender { self.new.ground.ghost_name ≡ self.old.ground.ghost_name }
+        ensures history { Longer V.ops self.old.exponent {s = draft} (λ h. posted h from to value) self.old.ground.now self.new.ground.now }
     {
-        self.ground.post_link(from, to, value)
+        Ground::on(self.ground, self.exponent).post_link(from, to, value)
     }
 
     /// Takes the link from one site to another away: it is none again.
     /// Refused with number 1 for a site that is not one of the board's, then with number 2 for the same
     /// site twice, then with number 3 for no link; a refusal leaves every cell.
     pub fn withdraw(&mut self, from: usize, to: usize) -> Result<(), LinkFault>
-        ensures answer { result ≡ withdraw_answer V.ops self.old.ground.exponent from to self.old.ground.cells.now }
-        ensures ground { self.new.ground.cells.now ≡ withdraw_ground V.ops self.old.ground.exponent from to self.old.ground.cells.now }
-        ensures kept { Kept self.old.ground self.new.ground }
-        ensures history { Longer V.ops self.old.ground.exponent (λ h. withdrawn h from to) self.old.ground.cells.now self.new.ground.cells.now }
+        ensures answer { result ≡ withdraw_answer V.ops self.old.exponent from to self.old.ground.now }
+        ensures ground { self.new.ground.now ≡ withdraw_ground V.ops self.old.exponent from to self.old.ground.now }
+        ensures exponent { self.new.exponent ≡ self.old.exponent }
+        ensures lender { self.new.ground.ghost_name ≡ self.old.ground.ghost_name }
+        ensures history { Longer V.ops self.old.exponent (λ h. withdrawn h from to) self.old.ground.now self.new.ground.now }
     {
-        self.ground.withdraw_link(from, to)
+        Ground::on(self.ground, self.exponent).withdraw_link(from, to)
     }
 
     /// Settles the board with a relay word: its links are copied to its routes, and the steps of the
     /// order whose pivot is a relay are run there. An order of another exponent is replaced by the
     /// loop order. It refuses nothing; a board without sites keeps every cell.
     pub fn settle<O: Order>(self, relays: u64, order: &O) -> Settled<'a, V>
-        ensures ground { result.ground.cells.now ≡ settle_ground V.ops self.entry.ground.exponent relays (O.log order.now) (O.at order.now) self.entry.ground.cells.now }
-        ensures kept { Kept self.entry.ground result.ground }
+        ensures ground { result.ground.now ≡ settle_ground V.ops self.entry.exponent relays (O.log order.now) (O.at order.now) self.entry.ground.now }
+        ensures exponent { result.exponent ≡ self.entry.exponent }
         ensures relays { result.relays.word ≡ relays }
-        ensures history { Settles V.ops self.entry.ground.exponent relays (O.log order.now) (O.at order.now) self.entry.ground.cells.now result.ground.cells.now }
+        ensures lender { result.ground.ghost_name ≡ self.entry.ground.ghost_name }
+        ensures history { Settles V.ops self.entry.exponent relays (O.log order.now) (O.at order.now) self.entry.ground.now result.ground.now }
     {
-        let Draft { mut ground } = self;
+        let Draft { ground, exponent } = self;
         // The word is a plain number for callers.
         let relays = Relays { word: relays };
-        ground.settle_routes(relays, order);
-        Settled { ground, relays }
+        Ground::on(ground, exponent).settle_routes(relays, order);
+        Settled {
+            ground,
+            exponent,
+            relays,
+        }
     }
 
     /// How many links the board has: pairs of different sites whose link is not none. It refuses
     /// nothing.
     #[tactic(auto, using(paths::proofs::CountsTold::counts_told))]
     pub fn count(&self) -> usize
-        ensures answer { result ≡ count_links V.ops self.now.ground.exponent self.now.ground.cells.now }
-        ensures told { CountsTold V.ops self.now.ground.exponent draft self.now.ground.cells.now result }
+        ensures answer { result ≡ count_links V.ops self.now.exponent self.now.ground.now }
+        ensures told { CountsTold V.ops self.now.exponent draft self.now.ground.now result }
     {
-        self.ground.count_links()
+        count_links(self.ground, self.exponent)
     }
 
     /// Ends the board and gives its ground back, with every cell as it stands. It refuses nothing.
     pub fn end(self) -> &'a mut [V]
-        ensures ground { result.now ≡ self.entry.ground.cells.now }
-        ensures lender { result.ghost_name ≡ self.entry.ground.cells.ghost_name }
+        ensures ground { result.now ≡ self.entry.ground.now }
+        ensures lender { result.ghost_name ≡ self.entry.ground.ghost_name }
     {
-        self.ground.end()
+        let Draft { ground, .. } = self;
+        ground
     }
 }

@@ -1,5 +1,5 @@
 // The life of a board of four mirrors, and a second board that goes another way.
-use anyhow::Result;
+use crate::failure::Failure;
 use board::draft::Draft;
 use board::settled::Settled;
 use faults::LinkFault;
@@ -24,7 +24,7 @@ const RELAYS: u64 = (1 << Geneva as u32) | (1 << Kyoto as u32);
 const RELAYS_OUTSIDE: u64 = 0b1111_0000;
 
 /// A board from its making on, and then whether a board that went another way shows the same.
-pub(crate) fn life(rt: &impl Print) -> Result<()> {
+pub(crate) fn life(rt: &impl Print) -> Result<(), Failure> {
     println!(rt; "{}", Heading("The life of a board"))?;
     let first = first_board(rt)?;
     println!(rt; "\n{}", Heading("Another board, another way"))?;
@@ -38,7 +38,7 @@ pub(crate) fn life(rt: &impl Print) -> Result<()> {
 }
 
 // A board that is settled, improved, reopened and settled again; the distances that it shows last.
-fn first_board(rt: &impl Print) -> Result<CostTable> {
+fn first_board(rt: &impl Print) -> Result<CostTable, Failure> {
     let mut ground = [Cost::new(99); 32];
     let mut draft = Draft::make(&mut ground, EXPONENT);
     draw_up(rt, &mut draft)?;
@@ -54,7 +54,7 @@ fn first_board(rt: &impl Print) -> Result<CostTable> {
 }
 
 // Posts the first links, and two that are refused.
-fn draw_up(rt: &impl Print, draft: &mut Draft<Cost>) -> Result<()> {
+fn draw_up(rt: &impl Print, draft: &mut Draft<Cost>) -> Result<(), Failure> {
     println!(rt; "On a new board of four mirrors these links are posted:")?;
     post(rt, draft, Bergen, Geneva, 4)?;
     post(rt, draft, Geneva, Kyoto, 9)?;
@@ -67,7 +67,7 @@ fn draw_up(rt: &impl Print, draft: &mut Draft<Cost>) -> Result<()> {
 }
 
 // Posts a link on the settled board.
-fn improve(rt: &impl Print, board: &mut Settled<Cost>) -> Result<()> {
+fn improve(rt: &impl Print, board: &mut Settled<Cost>) -> Result<(), Failure> {
     println!(rt; "A link is posted on the settled board:")?;
     say_link(rt, Geneva, Lima, 5)?;
     board.post(Geneva.site(), Lima.site(), Cost::new(5))?;
@@ -77,7 +77,7 @@ fn improve(rt: &impl Print, board: &mut Settled<Cost>) -> Result<()> {
 }
 
 // Withdraws a link of the reopened board.
-fn take_back(rt: &impl Print, draft: &mut Draft<Cost>) -> Result<()> {
+fn take_back(rt: &impl Print, draft: &mut Draft<Cost>) -> Result<(), Failure> {
     draft.withdraw(Geneva.site(), Kyoto.site())?;
     println!(rt; "Reopened, and the link from Geneva to Kyoto withdrawn.")?;
     println!(rt; "It has {} links.", draft.count())?;
@@ -86,7 +86,7 @@ fn take_back(rt: &impl Print, draft: &mut Draft<Cost>) -> Result<()> {
 
 // A board that comes to the same links by other calls, on a longer ground, by another order and
 // with a relay word that names sites which the board has not.
-fn second_board(rt: &impl Print) -> Result<CostTable> {
+fn second_board(rt: &impl Print) -> Result<CostTable, Failure> {
     let mut ground = [Cost::here(); 40];
     let mut draft = Draft::make(&mut ground, EXPONENT);
     println!(rt; "Posted on a longer ground:")?;
@@ -104,7 +104,7 @@ fn second_board(rt: &impl Print) -> Result<CostTable> {
 }
 
 // Brings the links of the second board to those of the first.
-fn redraw(rt: &impl Print, draft: &mut Draft<Cost>) -> Result<()> {
+fn redraw(rt: &impl Print, draft: &mut Draft<Cost>) -> Result<(), Failure> {
     println!(rt; "Reopened; the link from Bergen to Lima withdrawn; posted:")?;
     draft.withdraw(Bergen.site(), Lima.site())?;
     post(rt, draft, Bergen, Kyoto, 20)?;
@@ -119,7 +119,7 @@ fn post(
     from: Mirror,
     to: Mirror,
     cost: u32,
-) -> Result<()> {
+) -> Result<(), Failure> {
     draft.post(from.site(), to.site(), Cost::new(cost))?;
     say_link(rt, from, to, cost)?;
     Ok(())
@@ -132,7 +132,7 @@ fn say_link(rt: &impl Print, from: Mirror, to: Mirror, cost: u32) -> io::Result<
 
 // Posts a link that is refused, and says with which number. By numbers, since one of the sites is no
 // mirror.
-fn refuse(rt: &impl Print, draft: &mut Draft<Cost>, from: usize, to: usize) -> Result<()> {
+fn refuse(rt: &impl Print, draft: &mut Draft<Cost>, from: usize, to: usize) -> Result<(), Failure> {
     match draft.post(from, to, Cost::new(1)) {
         Ok(()) => println!(rt; "    site {from} to site {to} is taken")?,
         Err(fault) => println!(rt;
@@ -144,9 +144,9 @@ fn refuse(rt: &impl Print, draft: &mut Draft<Cost>, from: usize, to: usize) -> R
 }
 
 // Prints what a settled board shows.
-fn show_distances(rt: &impl Print, board: &Settled<Cost>) -> Result<CostTable> {
+fn show_distances(rt: &impl Print, board: &Settled<Cost>) -> Result<CostTable, Failure> {
     let shown = distances(board)?;
-    println!(rt; "{shown}")?;
+    shown.print(rt)?;
     Ok(shown)
 }
 

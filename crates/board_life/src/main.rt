@@ -2,8 +2,11 @@
 // The distances come from the board, whose results are proved; this program prints and compares them.
 #![tactic(auto)]
 
+mod failure;
 mod life;
 
-fn main(rt: HostRuntime) -> anyhow::Result<()> {
+use failure::Failure;
+
+fn main(rt: HostRuntime) -> Result<(), Failure> {
     life::life(&rt)
 }

@@ -2,11 +2,14 @@
 // The tables come from the runs, whose results are proved; this program prints and compares them.
 #![tactic(auto)]
 
+mod failure;
 mod network;
 mod show;
 mod summing;
 
-fn main(rt: HostRuntime) -> anyhow::Result<()> {
+use failure::Failure;
+
+fn main(rt: HostRuntime) -> Result<(), Failure> {
     show::show_summing(&rt)?;
     show::show_network(&rt)
 }

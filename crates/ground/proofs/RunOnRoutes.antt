@@ -49,8 +49,14 @@ module _ {V : Type 0} (o : Ops V) (q n word e : ℕ) (at : ℕ → Step) (xs : L
   pub settle_nowhere : n ≤ 0 → settle_ground o q word e at xs ≡ xs
   settle_nowhere none = settled_nowhere o (sites_on q (length xs)) word taken xs (omega arith)
 
+  pub settle_on_copy : (ys zs : List V) → 2 * (n * n) ≤ length xs → n ≡ 2 ^ q → ys ≡ copied (n * n) xs
+      → zs ≡ run_in_place (path_rule o) (relay_steps word) (2 ^ q) taken (take (2 * (n * n) - n * n) (drop (n * n) ys))
+      → put_mid (n * n) (2 * (n * n) - n * n) ys zs ≡ settle_ground o q word e at xs
+  settle_on_copy ys zs room power copies result =
+      settled_on_part o q n word taken xs ys zs room power copies result ∙ ap (λ m. settled_ground o m word taken xs) n_is
+
+  -- where the links are copied at once, as no code does now
   pub settle_on_part : (ys zs : List V) → 2 * (n * n) ≤ length xs → n ≡ 2 ^ q → ys ≡ copy_within xs 0 (n * n) (n * n)
       → zs ≡ run_in_place (path_rule o) (relay_steps word) (2 ^ q) taken (take (2 * (n * n) - n * n) (drop (n * n) ys))
       → put_mid (n * n) (2 * (n * n) - n * n) ys zs ≡ settle_ground o q word e at xs
-  settle_on_part ys zs room power copies result =
-      settled_on_part o q n word taken xs ys zs room power (copies ∙ copied_is (n * n) xs) result ∙ ap (λ m. settled_ground o m word taken xs) n_is
+  settle_on_part ys zs room power copies result = settle_on_copy ys zs room power (copies ∙ copied_is (n * n) xs) result

@@ -63,7 +63,7 @@ impl<V: Kind> Ground<'_, V> {
     {
         let at = self.link_between(from, to)?;
         let link = self.cells[at];
-        if link == V::none() {
+        if link.equals(V::none()) {
             return Err(LinkFault::NoLink);
         }
         self.cells[at] = V::none();
@@ -100,5 +100,5 @@ fn is_link<V: Kind>(n: usize, p: usize, link: V) -> bool
     requires { 0 < n }
     ensures { result ≡ (not (p / n == p % n) && not (V.ops.same link V.ops.none)) }
 {
-    p / n != p % n && link != V::none()
+    p / n != p % n && !link.equals(V::none())
 }

@@ -1,10 +1,11 @@
 -- Fares keep the laws of a kind: they choose the smaller cost, then the fewer hops. Assumes nothing.
 use Rattle.std.specs.Prelude.{◌≡◌, ℕ, ◌+◌, ◌*◌, ◌<◌, ◌≤◌, min, true, false, ◌⊎◌, refl}
-use Rattle.std.proofs.Common.{inl, inr, arith}
+use Rattle.std.proofs.Common.{◌∙◌, inl, inr, arith}
+use Rattle.std.proofs.lemmas.Bool.{cond-false}
 use Rattle.std.proofs.lemmas.Bool.Decides.{nat_tests}
 use Rattle.kinds.specs.Kind.{Laws}
 use Rattle.kinds.specs.Ranked.{Ranked}
-use Rattle.kinds.specs.Fares.{fares, fare_same, fare_sum, fare_here, is_here}
+use Rattle.kinds.specs.Fares.{fares, fare_same, fare_sum, fare_here, is_here, no_dearer}
 use Rattle.kinds.specs.declared.cells.Fare.{Fare}
 use Rattle.kinds.specs.Equal.{fare_equal}
 use Rattle.kinds.specs.Choosing.{ranked_lawful}
@@ -20,6 +21,10 @@ equal_same a b e = grind (arith, nat_tests)
 
 rank_equal : (a b : Fare) → rank a ≡ rank b → a ≡ b
 rank_equal a b e = fare_equal a b (omega arith) (omega arith)
+
+-- what the test tells, and which fare is taken
+no_dearer_tells : (a b : Fare) → ((no_dearer a b ≡ true) × (rank a ≤ rank b)) ⊎ ((no_dearer a b ≡ false) × (rank b ≤ rank a))
+no_dearer_tells a b = grind (arith, nat_tests)
 
 join_rank : (a b : Fare) → rank (fares.join a b) ≡ min (rank a) (rank b)
 join_rank a b = grind (arith, nat_tests)
@@ -43,8 +48,21 @@ sum_adds a b = grind (arith, nat_tests)
 adds_assoc : (a b c p q x y : Fare) → Adds a b p → Adds p c x → Adds b c q → Adds a q y → x ≡ y
 adds_assoc a b c p q x y h i j k = fare_equal x y (omega arith) (omega arith)
 
+-- what sums are by themselves; the proofs below need none of these three
+adds_comm : (a b x y : Fare) → Adds a b x → Adds b a y → x ≡ y
+adds_comm a b x y h i = fare_equal x y (omega arith) (omega arith)
+
+adds_mono : (a b c x y : Fare) → rank a ≤ rank b → Adds a c x → Adds b c y → rank x ≤ rank y
+adds_mono a b c x y h i j = omega arith
+
+adds_above : (b c y : Fare) → Adds b c y → rank c ≤ rank y
+adds_above b c y h = omega arith
+
 chain_here : (a : Fare) → fares.chain a fare_here ≡ a
 chain_here a = grind (arith, nat_tests, fare_equal)
+
+chain_apart : (a b : Fare) → is_here a ≡ false → is_here b ≡ false → fares.chain a b ≡ fare_sum a b
+chain_apart a b p q = cond-false _ _ _ p ∙ cond-false _ _ _ q
 
 chain_adds : (a b : Fare) → is_here a ≡ false → is_here b ≡ false → Adds a b (fares.chain a b)
 chain_adds a b p q = simp (p, q) (sum_adds a b)

@@ -1,6 +1,4 @@
 // Two kinds side by side: each call answers part by part.
-ghost use Rattle.std.specs.Prelude.{◌&&◌};
-ghost use Rattle.std.proofs.Common.{ap₂};
 ghost use Rattle.kinds.specs.Pairs.{pairs};
 ghost use Rattle.kinds.specs.PairsLemmas.{pairs_lawful};
 
@@ -11,8 +9,6 @@ impl<L: Kind, R: Kind> Kind for Beside<L, R> {
     ghost ops = { pairs L.ops R.ops };
 
     ghost lawful = { pairs_lawful L.lawful R.lawful };
-
-    ghost eq_is_same = { λ a b. ap₂ (λ x y. x && y) (L.eq_is_same a.left b.left) (R.eq_is_same a.right b.right) };
 
     fn join(self, other: Beside<L, R>) -> Beside<L, R> {
         Beside {
@@ -40,5 +36,9 @@ impl<L: Kind, R: Kind> Kind for Beside<L, R> {
             left: L::here(),
             right: R::here(),
         }
+    }
+
+    fn equals(self, other: Beside<L, R>) -> bool {
+        self.left.equals(other.left) && self.right.equals(other.right)
     }
 }

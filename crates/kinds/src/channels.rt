@@ -1,5 +1,5 @@
 // Channels: a join has those of either route, a chain those that both have.
-ghost use Rattle.std.specs.Prelude.{◌≡◌, refl};
+ghost use Rattle.std.specs.Prelude.{◌≡◌};
 ghost use Rattle.kinds.specs.ChannelSets.{channel_sets};
 ghost use Rattle.kinds.specs.ChannelSetsLemmas.{channel_sets_lawful};
 
@@ -22,8 +22,6 @@ impl Kind for Channels {
 
     ghost lawful = { channel_sets_lawful };
 
-    ghost eq_is_same = { λ a b. refl };
-
     fn join(self, other: Channels) -> Channels {
         Channels::new(self.set | other.set)
     }
@@ -38,5 +36,9 @@ impl Kind for Channels {
 
     fn here() -> Channels {
         Channels::new(u64::MAX)
+    }
+
+    fn equals(self, other: Channels) -> bool {
+        self == other
     }
 }

@@ -1,5 +1,5 @@
 // Costs: the smaller is the better, and 4294967295 is none.
-ghost use Rattle.std.specs.Prelude.{◌≡◌, refl, Some, cond, ◌==◌, codes, decimal};
+ghost use Rattle.std.specs.Prelude.{◌≡◌, Some, cond, ◌==◌, codes, decimal};
 ghost use Rattle.std.specs.Fmt.{styled_text, styled_decimal};
 ghost use Rattle.kinds.specs.Costs.{costs};
 ghost use Rattle.kinds.specs.CostsLemmas.{costs_lawful};
@@ -24,8 +24,6 @@ impl Kind for Cost {
 
     ghost lawful = { costs_lawful };
 
-    ghost eq_is_same = { λ a b. refl };
-
     fn join(self, other: Cost) -> Cost {
         self.min(other)
     }
@@ -40,6 +38,10 @@ impl Kind for Cost {
 
     fn here() -> Cost {
         Cost::new(0)
+    }
+
+    fn equals(self, other: Cost) -> bool {
+        self == other
     }
 }
 

@@ -12,5 +12,5 @@ pub fn covers<V: Kind>(a: V, b: V) -> bool
     ensures decides { Decides result (Covers V.ops a b) }
     ensures order { Covering V.ops }
 {
-    a.join(b) == a
+    a.join(b).equals(a)
 }

@@ -1,5 +1,5 @@
 // Fares: the smaller cost is the better, and at one cost the fewer hops.
-ghost use Rattle.std.specs.Prelude.{◌≡◌, refl};
+ghost use Rattle.std.specs.Prelude.{◌≡◌};
 ghost use Rattle.kinds.specs.Fares.{fares, fare_sum, fare_total};
 ghost use Rattle.kinds.specs.FaresLemmas.{fares_lawful};
 
@@ -45,8 +45,6 @@ impl Kind for Fare {
 
     ghost lawful = { fares_lawful };
 
-    ghost eq_is_same = { λ a b. refl };
-
     fn join(self, other: Fare) -> Fare {
         self.min(other)
     }
@@ -67,5 +65,9 @@ impl Kind for Fare {
 
     fn here() -> Fare {
         Fare::new(0, 0)
+    }
+
+    fn equals(self, other: Fare) -> bool {
+        self == other
     }
 }

@@ -1,11 +1,12 @@
-// What a value kind is: a join, a chain, a none and a here that keep the laws. `==` tells whether two
-// values are equal.
+// What a value kind is: a join, a chain, a none and a here that keep the laws, and a test for equality.
 ghost use Rattle.std.specs.Prelude.{◌≡◌};
 ghost use Rattle.kinds.specs.Kind.{Ops, Laws};
 
 /// A type of values that routes are measured by. Its calls answer by `ops`, refuse nothing and
 /// alter nothing.
-pub trait Kind: Copy + Eq {
+// Not `Eq`: that would leave out each cell type without `==`, or with one that is coarser than the
+// kind's equality.
+pub trait Kind: Copy {
     // What the calls answer.
     ghost ops: { Ops Self };
 
@@ -25,9 +26,10 @@ pub trait Kind: Copy + Eq {
     fn here() -> Self
         ensures { result ≡ ops.here };
 
+    /// Whether two values are equal.
+    fn equals(self, other: Self) -> bool
+        ensures { result ≡ ops.same self other };
+
     // What each kind shows, for all values.
     ghost lawful: { Laws ops };
-
-    // `==` answers by the operations' test for equality.
-    ghost eq_is_same: { (a b : Self) → Self.eq a b ≡ ops.same a b };
 }

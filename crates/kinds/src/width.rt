@@ -1,5 +1,5 @@
 // Widths: the larger is the better, and a chain is as wide as its narrower part.
-ghost use Rattle.std.specs.Prelude.{◌≡◌, refl};
+ghost use Rattle.std.specs.Prelude.{◌≡◌};
 ghost use Rattle.kinds.specs.Widths.{widths};
 ghost use Rattle.kinds.specs.WidthsLemmas.{widths_lawful};
 
@@ -22,8 +22,6 @@ impl Kind for Width {
 
     ghost lawful = { widths_lawful };
 
-    ghost eq_is_same = { λ a b. refl };
-
     fn join(self, other: Width) -> Width {
         self.max(other)
     }
@@ -38,5 +36,9 @@ impl Kind for Width {
 
     fn here() -> Width {
         Width::new(u32::MAX)
+    }
+
+    fn equals(self, other: Width) -> bool {
+        self == other
     }
 }

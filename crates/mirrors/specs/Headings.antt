@@ -2,6 +2,10 @@
 use Rattle.std.specs.Prelude.{ℕ, List, ◌∷◌, ◌++◌, length, codes}
 use Rattle.std.specs.List.{repeat}
 
--- a title, and under it as many dashes as it has bytes
+-- as many dashes as a title has bytes
+abbrev pub under : List ℕ → List ℕ
+under title = repeat (length title) (codes "-")
+
+-- a title, and that line under it
 abbrev pub underlined : List ℕ → List ℕ
-underlined title = title ++ 10 ∷ repeat (length title) (codes "-")
+underlined title = title ++ 10 ∷ under title

@@ -5,10 +5,10 @@
 ghost use Rattle.std.specs.Prelude.{◌≡◌, Some, slice_get};
 ghost use Rattle.std.specs.Fmt.{padded};
 ghost use Rattle.mirrors.specs.Names.{name};
-ghost use Rattle.mirrors.specs.Headings.{underlined};
+ghost use Rattle.mirrors.specs.Headings.{under, underlined};
 
 use kinds::cells::Cost;
-use std::fmt;
+use std::{fmt, io};
 
 /// A mirror of a network of four.
 #[derive(Clone, Copy, PartialEq, Eq, Debug)]
@@ -59,19 +59,19 @@ pub struct CostTable {
     pub cells: [Cost; 16],
 }
 
-/// The mirrors' names above and before the rows.
-// Its text is in no contract: what is written is only tested.
-impl fmt::Display for CostTable {
-    fn fmt<W: fmt::Write>(&self, f: &mut fmt::Formatter<W>) -> fmt::Result {
-        write!(f, "    {:<8}", "")?;
-        for to in Mirror::ALL {
-            write!(f, "{to:>8}")?;
-        }
+impl CostTable {
+    /// Prints the table, the mirrors' names above and before the rows.
+    // Its text is in no contract: what is written is only tested. No `Display`, which would go out as
+    // one piece: each name and each cost is written by itself.
+    pub fn print(&self, rt: &impl Print) -> io::Result<()> {
+        let [a, b, c, d] = Mirror::ALL;
+        println!(rt; "    {:<8}{a:>8}{b:>8}{c:>8}{d:>8}", "")?;
         for (from, row) in Mirror::ALL.iter().zip(self.cells.chunks_exact(4)) {
-            write!(f, "\n    {from:<8}")?;
+            print!(rt; "    {from:<8}")?;
             for cost in row {
-                write!(f, "{cost:>8}")?;
+                print!(rt; "{cost:>8}")?;
             }
+            println!(rt; "")?;
         }
         Ok(())
     }
@@ -81,12 +81,24 @@ impl fmt::Display for CostTable {
 #[derive(Clone, Copy, Debug)]
 pub struct Heading<'a>(pub &'a str);
 
-#[tactic(auto, using(crate::proofs::Headings::dashes))]
 impl fmt::Display for Heading<'_> {
     ghost output = { λ heading. Some (underlined heading.0.now) };
 
     fn fmt<W: fmt::Write>(&self, f: &mut fmt::Formatter<W>) -> fmt::Result {
         let title = self.0;
-        write!(f, "{title}\n{:-<width$}", "", width = title.len())
+        write!(f, "{title}\n{}", Underline(title))
+    }
+}
+
+/// The line under a title, by itself.
+#[derive(Clone, Copy, Debug)]
+pub struct Underline<'a>(pub &'a str);
+
+#[tactic(auto, using(crate::proofs::Headings::dashes))]
+impl fmt::Display for Underline<'_> {
+    ghost output = { λ line. Some (under line.0.now) };
+
+    fn fmt<W: fmt::Write>(&self, f: &mut fmt::Formatter<W>) -> fmt::Result {
+        write!(f, "{:-<width$}", "", width = self.0.len())
     }
 }

@@ -11,7 +11,7 @@ use crate::step::Step;
 use faults::LayoutFault;
 
 /// The order of the triple loop: k, then i, then j ascending.
-// Two order types, each a list of its own, so `new`, `size` and `step` stand in both: a generic type
+// Two order types, each a list of its own, so `new`, `exponent` and `step` stand in both: a generic type
 // would be no plainer.
 #[derive(Clone, Copy, PartialEq, Eq, Debug)]
 pub struct LoopOrder {
@@ -39,8 +39,8 @@ impl Order for LoopOrder {
 
     ghost lawful = { λ o. loop_lawful (2 ^ o.size.exponent) };
 
-    fn size(&self) -> Size {
-        self.size
+    fn exponent(&self) -> u32 {
+        self.size.exponent()
     }
 
     fn step(&self, t: usize) -> Option<Step> {

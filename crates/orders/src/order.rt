@@ -17,15 +17,15 @@ pub trait Order {
     // the step of each number below n³
     ghost at: { Self → ℕ → Step };
 
-    /// The size of the table: n = 2^q sites.
-    fn size(&self) -> Size
-        ensures { result.exponent ≡ log self.now };
-
     /// The exponent q: the order is one of n = 2^q sites.
-    final fn exponent(&self) -> u32
-        ensures { result ≡ log self.now }
+    fn exponent(&self) -> u32
+        ensures { result ≡ log self.now };
+
+    /// The size of the table: n = 2^q sites. An order's exponent is at most 6, so it is never refused.
+    fn size(&self) -> Size
+        ensures { result.exponent ≡ log self.now }
     {
-        self.size().exponent()
+        Size::new(self.exponent()).unwrap()
     }
 
     /// The step of number t, none from n³ up.

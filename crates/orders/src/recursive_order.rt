@@ -12,7 +12,7 @@ use faults::LayoutFault;
 
 /// The recursive order: in each table the four quarters forward with the lower half of the
 /// pivots, then the four backward with the upper half, and so on inside each quarter.
-// Two order types, each a list of its own, so `new`, `size` and `step` stand in both: a generic type
+// Two order types, each a list of its own, so `new`, `exponent` and `step` stand in both: a generic type
 // would be no plainer.
 #[derive(Clone, Copy, PartialEq, Eq, Debug)]
 pub struct RecursiveOrder {
@@ -40,8 +40,8 @@ impl Order for RecursiveOrder {
 
     ghost lawful = { λ o. recursive_lawful o.size.exponent };
 
-    fn size(&self) -> Size {
-        self.size
+    fn exponent(&self) -> u32 {
+        self.size.exponent()
     }
 
     fn step(&self, t: usize) -> Option<Step> {

@@ -1,4 +1,8 @@
 // Examples with values from the rules: k, i and j by division, or by the digits in base 8.
+ghost use Rattle.std.specs.Prelude.{◌^◌, ◌≤◌};
+ghost use Rattle.orders.specs.LoopOrder.{loop_at};
+ghost use Rattle.orders.specs.LoopLaws.{loop_lawful};
+
 use crate::codes::write_step_codes;
 use crate::loop_order::LoopOrder;
 use crate::order::Order;
@@ -26,6 +30,42 @@ fn loop_steps(rt: HostRuntime) -> Result<(), Fail> {
     assert_eq!(rt; order.step(63), Some(Step { i: 3, j: 3, k: 3 }));
     assert_eq!(rt; order.step(64), None);
     Ok(())
+}
+
+// An order of a caller's own, which gives its exponent and its steps by number and nothing else.
+#[derive(Clone, Copy)]
+struct Own {
+    exponent: u32,
+    ghost small: { exponent ≤ 6 },
+}
+
+impl Order for Own {
+    ghost log = { λ o. o.exponent };
+
+    ghost at = { λ o. loop_at (2 ^ o.exponent) };
+
+    ghost small = { λ o. o.small };
+
+    ghost lawful = { λ o. loop_lawful (2 ^ o.exponent) };
+
+    fn exponent(&self) -> u32 {
+        self.exponent
+    }
+
+    fn step(&self, t: usize) -> Option<Step> {
+        LoopOrder::new(self.exponent).unwrap().step(t)
+    }
+}
+
+#[test]
+fn an_order_of_a_callers_own(rt: HostRuntime) {
+    let own = Own { exponent: 2 };
+    assert_eq!(rt; own.size().sites(), 4);
+    assert_eq!(rt; own.step(45), Some(Step { i: 3, j: 1, k: 2 }));
+    assert_eq!(rt; own.steps().count(), 64);
+    let behind: &dyn Order = &own;
+    assert_eq!(rt; behind.exponent(), 2);
+    assert_eq!(rt; behind.step(64), None);
 }
 
 #[test]
